@@ -1,0 +1,4 @@
+pub mod Overs
+pub mod Puts
+pub mod Bytes
+pub mod Exacts
