@@ -1,0 +1,38 @@
+-- The first entry that fails a test: one step of a search, and what an answer says.
+use Prim.Native.Nat.{ℕ, zero, suc, _+_, _<_, _≤_}
+use native.Mathlib.Omega.{arith}
+use native.Mathlib.Numerals.{add-one}
+use mathlib.Core.Path.{_≡_, refl, sym, _∙_, ap}
+use mathlib.Core.Bool.{Bool, true, false, cond}
+use mathlib.Core.List.{List, [], _∷_}
+use lib.ListN.{length, getD, drop}
+use Rattle.std.proofs.shelf.Lists.{drop-more}
+use Rattle.std.proofs.shelf.Tests.{cond-true, cond-false}
+use Rattle.std.specs.declared.option.Option.{Option}
+use Rattle.std.specs.declared.option.Option.the-variants.{Some, None}
+use Rattle.book.specs.Refusals.{first-failing}
+
+module _ {X : Type 0} (test : X → Bool) (xs : List X) (i : ℕ) (d : X) (below : i < length xs) where
+  here : first-failing test i (drop i xs) ≡ cond (test (getD xs i d)) (first-failing test (i + 1) (drop (i + 1) xs)) (Some i)
+  here = ap (first-failing test i) (drop-more xs i d below) ∙ ap (λ (n : ℕ). cond (test (getD xs i d)) (first-failing test n (drop (i + 1) xs)) (Some i)) (sym (add-one i))
+
+  pub passes : test (getD xs i d) ≡ true → first-failing test (i + 1) (drop (i + 1) xs) ≡ first-failing test i (drop i xs)
+  passes h = sym (here ∙ cond-true (test (getD xs i d)) _ _ h)
+
+  pub fails : test (getD xs i d) ≡ false → first-failing test i (drop i xs) ≡ Some i
+  fails h = here ∙ cond-false (test (getD xs i d)) _ _ h
+
+-- none fails: each passes
+pub all-pass : {X : Type 0} (test : X → Bool) (n : ℕ) (xs : List X) → first-failing test n xs ≡ None → (i : ℕ) (d : X) → i < length xs → test (getD xs i d) ≡ true
+all-pass test n [] e i d l = absurd (omega arith)
+all-pass test n (x ∷ xs) e i d l = by (test x) refl i l (λ h. all-pass test (suc n) xs (sym (cond-true (test x) _ _ h) ∙ e))
+  where
+    by : (b : Bool) → test x ≡ b → (j : ℕ) → j < suc (length xs) → (b ≡ true → (k : ℕ) (c : _) → k < length xs → test (getD xs k c) ≡ true) → test (getD (x ∷ xs) j d) ≡ true
+    by true h zero m rest = h
+    by true h (suc j) m rest = rest refl j d (omega arith)
+    by false h j m rest = let z : _≡_ {A = Option ℕ} (Some n) None = sym (cond-false (test x) _ _ h) ∙ e in let w : _≡_ {A = ℕ} 0 1 = cc in absurd (omega arith)
+
+pub none-fails : {X : Type 0} (test : X → Bool) (n : ℕ) (xs : List X) (d : X) → ((i : ℕ) → i < length xs → test (getD xs i d) ≡ true) → first-failing test n xs ≡ None
+none-fails test n [] d h = refl
+none-fails test n (x ∷ xs) d h =
+    cond-true (test x) _ _ (h 0 (omega arith)) ∙ none-fails test (suc n) xs d (λ i l. h (suc i) (omega arith))
