@@ -1,9 +1,10 @@
 -- Which refusal a book earns: the first in the order of the checks, by its first entry at fault.
-use Prim.Native.Nat.{ℕ, suc}
-use mathlib.Core.Bool.{Bool, _&&_, cond}
+use Prim.Native.Nat.{ℕ, suc, _<_}
+use mathlib.Core.Path.{_≡_}
+use mathlib.Core.Bool.{Bool, true, false, _&&_, cond}
 use mathlib.Core.List.{List, [], _∷_}
 use lib.Dec.{leb}
-use lib.ListN.{length}
+use lib.ListN.{length, getD}
 use Rattle.std.specs.Options.{mapped, orOther}
 use Rattle.std.specs.declared.option.Option.{Option}
 use Rattle.std.specs.declared.option.Option.the-variants.{Some, None}
@@ -28,6 +29,14 @@ answer (Some f) x = Err f
 abbrev pub first-failing : {X : Type 0} → (X → Bool) → ℕ → List X → Option ℕ
 first-failing test n [] = None
 first-failing test n (x ∷ xs) = cond (test x) (first-failing test (suc n) xs) (Some n)
+
+-- what an answer of that means: each entry passes, or k is the first that does not
+abbrev pub First : {X : Type 0} → (X → Bool) → List X → Option ℕ → Type 0
+First {X} test xs None = (i : ℕ) (d : X) → i < length xs → test (getD xs i d) ≡ true
+First {X} test xs (Some k) = (k < length xs) × ((d : X) → test (getD xs k d) ≡ false) × ((i : ℕ) (d : X) → i < k → test (getD xs i d) ≡ true)
+
+abbrev pub Names-first : {X : Type 0} → (X → Bool) → List X → Type 0
+Names-first test xs = First test xs (first-failing test 0 xs)
 
 -- a fault unless the test holds
 abbrev pub unless : Bool → BookFault → Option BookFault

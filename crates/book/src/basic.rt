@@ -12,7 +12,7 @@ use crate::turn::product;
 
 // The empty aircraft: its mass and moment, the arm behind which it tips on its tail, and how many
 // kilograms may be changed after release.
-#[derive(Clone, Copy, PartialEq, Debug)]
+#[derive(Clone, Copy)]
 pub struct Basic {
     pub mass: u32,
     pub moment: i64,

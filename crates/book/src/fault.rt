@@ -39,7 +39,7 @@ pub impl From<RecordFault> for BookFault as BookFromRecord {
     ghost converts = { λ f r. r ≡ OfRecord f };
 
     fn from(f: RecordFault) -> BookFault {
-        BookFault::Record(f)
+        Self::Record(f)
     }
 }
 

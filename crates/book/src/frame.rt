@@ -1,20 +1,22 @@
 ghost use mathlib.Core.Path.{_≡_};
+ghost use Prim.Native.Nat.{_≤_};
+ghost use lib.ListN.{length};
 ghost use Rattle.book.specs.Fields.{frame-in};
-ghost use Rattle.book.specs.Refusals.{answer, frame-refusal};
+ghost use Rattle.book.specs.Refusals.{answer, frame-refusal, Names-first};
 use crate::fault::BookFault;
 use crate::ranges::arm_in;
 use crate::rule::Rule;
 use crate::rule::first_failing;
 
 // From which side the deck bends a frame.
-#[derive(Clone, Copy, PartialEq, Debug)]
+#[derive(Clone, Copy)]
 pub enum Side {
     Fore,
     Aft,
 }
 
 // A cross-section at an arm, and the bending in kilogram-centimetres that it bears from one side.
-#[derive(Clone, Copy, PartialEq, Debug)]
+#[derive(Clone, Copy)]
 pub struct Frame {
     pub arm: i32,
     pub side: Side,
@@ -36,7 +38,8 @@ impl Rule for FrameLimits as FrameRule {
 
 // At most 32 frames with their fields in limits, or the first whose are not is named.
 pub fn check_frames(frames: &[Frame]) -> Result<(), BookFault>
-    ensures { λ r. ⌜ r ≡ answer (frame-refusal (now (frames .entry))) tt ⌝ }
+    ensures value { λ r. ⌜ r ≡ answer (frame-refusal (now (frames .entry))) tt ⌝ }
+    ensures first { λ _. ⌜ (length (now (frames .entry)) ≤ 32 → Names-first frame-in (now (frames .entry))) ⌝ }
 {
     if frames.len() > 32 {
         return Err(BookFault::FrameCount);

@@ -9,7 +9,7 @@ use crate::station::check_count;
 use crate::station::check_stations;
 
 // Mass and moment of the basic record and all stations together.
-#[derive(Clone, Copy, PartialEq, Debug)]
+#[derive(Clone, Copy)]
 pub struct Totals {
     pub mass: i64,
     pub moment: i64,

@@ -1,12 +1,14 @@
 ghost use mathlib.Core.Path.{_≡_};
+ghost use Prim.Native.Nat.{_≤_};
+ghost use lib.ListN.{length};
 ghost use Rattle.book.specs.Fields.{zone-in};
-ghost use Rattle.book.specs.Refusals.{answer, zone-refusal};
+ghost use Rattle.book.specs.Refusals.{answer, zone-refusal, Names-first};
 use crate::fault::BookFault;
 use crate::rule::Rule;
 use crate::rule::first_failing;
 
 // The stations from `from` up to `to` - 1, and what they may carry together.
-#[derive(Clone, Copy, PartialEq, Debug)]
+#[derive(Clone, Copy)]
 pub struct Zone {
     pub from: usize,
     pub to: usize,
@@ -31,7 +33,8 @@ impl Rule for ZoneLimits as ZoneRule {
 
 // At most 32 zones, each of at least one station of the deck, or the first that is not is named.
 pub fn check_zones(zones: &[Zone], stations: usize) -> Result<(), BookFault>
-    ensures { λ r. ⌜ r ≡ answer (zone-refusal stations (now (zones .entry))) tt ⌝ }
+    ensures value { λ r. ⌜ r ≡ answer (zone-refusal stations (now (zones .entry))) tt ⌝ }
+    ensures first { λ _. ⌜ (length (now (zones .entry)) ≤ 32 → Names-first (zone-in stations) (now (zones .entry))) ⌝ }
 {
     if zones.len() > 32 {
         return Err(BookFault::ZoneCount);
