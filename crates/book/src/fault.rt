@@ -2,14 +2,12 @@ ghost use mathlib.Core.Path.{_≡_};
 ghost use Rattle.book.specs.Faults.{book-number, book-layer, book-place};
 ghost use Rattle.book.specs.declared.fault.BookFault.the-variants.{Record as OfRecord};
 use records::RecordFault;
-use records::RecordFaultDebug;
-use records::RecordFaultPartialEq;
 
 // The book is the second layer.
 const LAYER: u8 = 2;
 
 // Why a book is refused, or the fault of a record that came from below.
-#[derive(Clone, Copy, PartialEq, Debug)]
+#[derive(Clone, Copy)]
 pub enum BookFault {
     Record(RecordFault),
     // No station, or more than 256.

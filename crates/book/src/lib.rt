@@ -17,8 +17,6 @@ mod zone;
 pub use basic::Basic;
 pub use envelope::Envelope;
 pub use fault::BookFault;
-pub use fault::BookFaultDebug;
-pub use fault::BookFaultPartialEq;
 pub use fault::BookFromRecord;
 pub use frame::Frame;
 pub use frame::Side;

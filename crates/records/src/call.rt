@@ -4,7 +4,7 @@ ghost use Rattle.records.specs.Records.{form-of, Fits};
 use crate::form::Form;
 
 // What a planner asks of a sheet, with the fields that its record carries.
-#[derive(Clone, Copy, PartialEq, Debug)]
+#[derive(Clone, Copy)]
 pub enum Call {
     Load { station: u16, kg: u32 },
     Unload { station: u16, kg: u32 },

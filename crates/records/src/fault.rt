@@ -5,7 +5,7 @@ ghost use Rattle.records.specs.Faults.{fault-number, fault-layer, fault-place}
 const LAYER: u8 = 1;
 
 // Why a record could not be written or read.
-#[derive(Clone, Copy, PartialEq, Debug)]
+#[derive(Clone, Copy)]
 pub enum RecordFault {
     // The caller's memory has no room for the next field.
     NoRoom,

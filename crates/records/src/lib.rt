@@ -8,11 +8,7 @@ mod round_trip;
 mod writer;
 
 pub use call::Call;
-pub use call::CallDebug;
-pub use call::CallPartialEq;
 pub use fault::RecordFault;
-pub use fault::RecordFaultDebug;
-pub use fault::RecordFaultPartialEq;
 pub use reader::read;
 pub use round_trip::echo;
 pub use writer::Writer;
