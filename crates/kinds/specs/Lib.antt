@@ -1,0 +1,7 @@
+pub mod Direct
+pub mod Floors
+pub mod Folds
+pub mod Houses
+pub mod Loads
+pub mod Moments
+pub mod Tests
