@@ -3,6 +3,7 @@
 mod answer;
 mod arm;
 mod book_text;
+mod by_hand;
 mod call_text;
 mod entry;
 mod entry_text;
@@ -13,12 +14,16 @@ mod line;
 mod lists;
 mod number;
 mod refusal;
+mod summary_text;
 mod wrong;
 
 use answer::Answer;
 use answer::AnswerDisplay;
+use book::Station;
 use book::Totals;
 use book_text::BookText;
+use by_hand::agree;
+use by_hand::by_hand;
 use entry_text::NumberedDisplay;
 use failure::Failure;
 use failure::FailureDisplay;
@@ -26,6 +31,9 @@ use failure::FailureFromAlloc;
 use failure::FailureFromIo;
 use judgement::Kept;
 use judgement::KeptDisplay;
+use kinds::House;
+use kinds::HouseJudged;
+use kinds::house_from;
 use refusal::Refusal;
 use refusal::RefusalDisplay;
 use std::env;
@@ -33,6 +41,8 @@ use std::fs;
 use std::io;
 use std::io::BufRead;
 use std::io::BufReader;
+use summary_text::Summary;
+use summary_text::SummaryDisplay;
 use wrong::WrongDisplay;
 
 // The one argument: the book's file.
@@ -67,6 +77,24 @@ fn print_entries(rt: &LibcRuntime, book: &BookText) -> io::Result<()> {
     Ok(())
 }
 
+// Prints, from the tail forward, the summary of the deck from each station on, joined and by hand.
+fn print_summaries(rt: &LibcRuntime, stations: &[Station]) -> io::Result<()> {
+    for from in (0..stations.len()).rev() {
+        let joined = house_from::<House>(stations, from);
+        let hand = by_hand(stations, from);
+        let said = if agree(&joined, &hand) {
+            "agrees"
+        } else {
+            "DIFFERS"
+        };
+        let joined = Summary(joined);
+        let hand = Summary(hand);
+        println!(rt, "deck from {from}: {joined}")?;
+        println!(rt, "  by hand: {hand}, {said}")?;
+    }
+    Ok(())
+}
+
 // Prints the totals, and whether trim and tip are kept, up to the first refusal.
 fn print_judgement(rt: &LibcRuntime, book: &BookText) -> io::Result<()> {
     let totals = match Totals::of(&book.basic, book.lists.stations.as_slice()) {
@@ -75,6 +103,7 @@ fn print_judgement(rt: &LibcRuntime, book: &BookText) -> io::Result<()> {
     };
     let mass = totals.mass;
     let moment = totals.moment;
+    print_summaries(rt, book.lists.stations.as_slice())?;
     println!(rt, "total: mass {mass} kg, moment {moment} kg cm")?;
     match Kept::by(book, totals) {
         Ok(kept) => rt.println(kept),
