@@ -1,4 +1,5 @@
 ghost use mathlib.Core.Path.{_≡_};
+ghost use Prim.Native.Nat.{ℕ, _+_, _≤_};
 use crate::kind::Kind;
 use book::Station;
 
@@ -7,6 +8,13 @@ use book::Station;
 pub struct Beside<X, Y> {
     pub one: X,
     pub other: Y,
+}
+
+// Two values of one kind joined, the forward one first.
+fn joined<K: Kind>(fore: K, aft: K) -> K
+    ensures { λ r. ⌜ ((j k : ℕ) → K·Kind .stands fore j → K·Kind .stands aft k → j + k ≤ 256 → (K·Kind .reading r ≡ K·Kind .joined (K·Kind .reading fore) (K·Kind .reading aft)) × K·Kind .stands r (j + k)) ⌝ }
+{
+    fore.join(aft)
 }
 
 pub impl<X: Kind, Y: Kind> Kind for Beside<X, Y> as BesideKind {
@@ -38,8 +46,8 @@ pub impl<X: Kind, Y: Kind> Kind for Beside<X, Y> as BesideKind {
 
     fn join(self, aft: Beside<X, Y>) -> Beside<X, Y> {
         Beside {
-            one: self.one.join(aft.one),
-            other: self.other.join(aft.other),
+            one: joined(self.one, aft.one),
+            other: joined(self.other, aft.other),
         }
     }
 }
