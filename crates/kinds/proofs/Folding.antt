@@ -45,3 +45,14 @@ module _ {R : Type 0} (none : R) (single : ℕ → Station → R) (joined : R �
         ap (read-at none single joined (i - 1)) p ∙ ap (λ (k : ℕ). joined (single (i - 1) (getD ss (i - 1) d)) (read-at none single joined k (drop i ss))) f,
         ap length p ∙ omega arith,
       )
+
+-- two readings side by side are carried each by itself
+module _ {R S : Type 0} (none : R) (single : ℕ → Station → R) (joined : R → R → R) (none′ : S) (single′ : ℕ → Station → S) (joined′ : S → S → S) where
+  abbrev sides : ℕ → List Station → R × S
+  sides n ss = read-at {R = R × S} (none, none′) (λ n s. (single n s, single′ n s)) (λ x y. (joined (x .0) (y .0), joined′ (x .1) (y .1))) n ss
+
+  pub one-side : (n : ℕ) (ss : List Station) → sides n ss .0 ≡ read-at none single joined n ss
+  one-side = read-carried (λ (p : R × S). p .0) (none, none′) (λ n s. (single n s, single′ n s)) (λ x y. (joined (x .0) (y .0), joined′ (x .1) (y .1))) none single joined refl (λ n s. refl) (λ x y. refl)
+
+  pub other-side : (n : ℕ) (ss : List Station) → sides n ss .1 ≡ read-at none′ single′ joined′ n ss
+  other-side = read-carried (λ (p : R × S). p .1) (none, none′) (λ n s. (single n s, single′ n s)) (λ x y. (joined (x .0) (y .0), joined′ (x .1) (y .1))) none′ single′ joined′ refl (λ n s. refl) (λ x y. refl)

@@ -17,10 +17,18 @@ use Rattle.std.proofs.shelf.Signed.{ints, clamps, by-ltZ}
 use Rattle.std.proofs.shelf.Tests.{ltb-true, ltb-false}
 use Rattle.book.specs.declared.station.Station.{Station}
 use Rattle.book.specs.Sums.{mass-of, moment-of}
+use Rattle.kinds.specs.declared.floor_record.FloorRecord.{FloorRecord}
 use Rattle.kinds.specs.declared.floor_record.Over.{Over}
+use Rattle.kinds.specs.declared.house.House.{House}
+use Rattle.kinds.specs.declared.mass_moment.MassMoment.{MassMoment}
+use Rattle.kinds.specs.declared.running_load.RunningLoad.{RunningLoad}
 use Rattle.kinds.specs.Direct.{fore-margin, aft-margin, Above, Is-least, Is-first-over, Summary}
-use Rattle.kinds.specs.Houses.{house-at}
-use Rattle.kinds.specs.Loads.{left-of, taken, least-of}
+use Rattle.kinds.specs.Floors.{no-floor, one-floor, both-floors}
+use Rattle.kinds.specs.Houses.{no-house, one-house, both-houses, house-at}
+use Rattle.kinds.specs.Loads.{left-of, taken, least-of, no-load, one-load, both-loads}
+use Rattle.kinds.specs.Meaning.{moments-at, loads-at, floors-at, Kinds-mean}
+use Rattle.kinds.specs.Moments.{no-moment, one-moment, both-moments}
+use Rattle.kinds.proofs.Folding.{read-carried}
 
 abbrev Margin-at : Type 0
 Margin-at = List Station → Station → List Station → Option ℤ
@@ -107,4 +115,27 @@ summary n (s ∷ ss) =
           (sym (ap (taken (left-of (s .aft) (s .mass))) (ih .total) ∙ left-both (s .aft) (s .mass) (mass-of ss)))
           (ih .aft);
       floor = first-at n s ss (house-at (suc n) ss .floors .first) (ltb (s .floor) (s .mass)) refl (ih .floor);
+    }
+
+-- the parts of a house summary are the summaries of its parts
+
+moments-in : (n : ℕ) (ss : List Station) → house-at n ss .moments ≡ moments-at n ss
+moments-in = read-carried (λ (h : House). h .moments) no-house one-house both-houses no-moment (λ _ s. one-moment s) both-moments refl (λ n s. refl) (λ x y. refl)
+
+loads-in : (n : ℕ) (ss : List Station) → house-at n ss .load ≡ loads-at n ss
+loads-in = read-carried (λ (h : House). h .load) no-house one-house both-houses no-load (λ _ s. one-load s) both-loads refl (λ n s. refl) (λ x y. refl)
+
+floors-in : (n : ℕ) (ss : List Station) → house-at n ss .floors ≡ floors-at n ss
+floors-in = read-carried (λ (h : House). h .floors) no-house one-house both-houses no-floor one-floor both-floors refl (λ n s. refl) (λ x y. refl)
+
+pub kinds-mean : Kinds-mean
+kinds-mean =
+    record {
+      masses = λ n ss. subst (λ (x : MassMoment). x .mass ≡ pos (mass-of ss)) (moments-in n ss) (summary n ss .mass);
+      moments = λ n ss. subst (λ (x : MassMoment). x .moment ≡ moment-of ss) (moments-in n ss) (summary n ss .moment);
+      totals = λ n ss. subst (λ (x : RunningLoad). x .total ≡ pos (mass-of ss)) (loads-in n ss) (summary n ss .total);
+      fores = λ n ss. subst (λ (x : RunningLoad). Is-least fore-margin ss (x .fore)) (loads-in n ss) (summary n ss .fore);
+      afts = λ n ss. subst (λ (x : RunningLoad). Is-least aft-margin ss (x .aft)) (loads-in n ss) (summary n ss .aft);
+      floors = λ n ss. subst (λ (x : FloorRecord). Is-first-over n ss (x .first)) (floors-in n ss) (summary n ss .floor);
+      houses = summary;
     }

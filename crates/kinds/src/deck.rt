@@ -4,7 +4,10 @@ ghost use lib.ListN.{length, drop};
 ghost use Rattle.kinds.specs.Direct.{Summary};
 ghost use Rattle.kinds.specs.Folds.{read-at, All-lawful};
 ghost use Rattle.kinds.specs.Houses.{house-at};
+ghost use Rattle.kinds.specs.Meaning.{Kinds-mean};
+use crate::beside::Beside;
 use crate::house::House;
+use crate::joining::beside_joined_from;
 use crate::joining::house_joined_from;
 use crate::joining::joined_from;
 use crate::joining::joined_meets;
@@ -24,6 +27,7 @@ pub fn deck_from<K: Kind>(stations: &[Station], from: usize) -> K
 pub fn house_from<J: Judged>(stations: &[Station], from: usize) -> House
     ensures joined { λ r. ⌜ (All-lawful (now (stations .entry)) → length (now (stations .entry)) ≤ 256 → r ≡ house-at from (drop from (now (stations .entry)))) ⌝ }
     ensures means { λ r. ⌜ (All-lawful (now (stations .entry)) → length (now (stations .entry)) ≤ 256 → Summary from (drop from (now (stations .entry))) r) ⌝ }
+    ensures always { λ _. ⌜ Kinds-mean ⌝ }
 {
     house_joined_from::<J>(stations, from)
 }
@@ -33,4 +37,11 @@ pub fn meets_from<T: Test>(test: &T, stations: &[Station], from: usize) -> bool
     ensures { λ r. ⌜ (All-lawful (now (stations .entry)) → length (now (stations .entry)) ≤ 256 → r ≡ T·Test .meets (now (test .entry)) (read-at (Of·Kind .none) (Of·Kind .single) (Of·Kind .joined) from (drop from (now (stations .entry))))) ⌝ }
 {
     joined_meets(test, stations, from)
+}
+
+// Two kinds side by side: each part is that kind's own summary of the deck from a station on.
+pub fn beside_from<X: Kind, Y: Kind>(stations: &[Station], from: usize) -> Beside<X, Y>
+    ensures { λ r. ⌜ (All-lawful (now (stations .entry)) → length (now (stations .entry)) ≤ 256 → (X·Kind .reading (r .one) ≡ read-at (X·Kind .none) (X·Kind .single) (X·Kind .joined) from (drop from (now (stations .entry)))) × (Y·Kind .reading (r .other) ≡ read-at (Y·Kind .none) (Y·Kind .single) (Y·Kind .joined) from (drop from (now (stations .entry))))) ⌝ }
+{
+    beside_joined_from(stations, from)
 }

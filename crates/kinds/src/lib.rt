@@ -18,6 +18,7 @@ pub use at_least::AtLeast;
 pub use at_least::AtLeastTest;
 pub use beside::Beside;
 pub use beside::BesideKind;
+pub use deck::beside_from;
 pub use deck::deck_from;
 pub use deck::house_from;
 pub use deck::meets_from;

@@ -6,7 +6,7 @@ use Rattle.kinds.specs.declared.house.House.{House}
 use Rattle.kinds.specs.Direct.{Summary}
 use Rattle.kinds.specs.Houses.{no-house, one-house, both-houses, house-at}
 use Rattle.kinds.proofs.Folding.{read-carried}
-use Rattle.kinds.proofs.Rows.{summary}
+use Rattle.kinds.proofs.Rows.{summary, kinds-mean}
 use Rattle.kinds.proofs.joining.house_joined_from.Needs as need
 
 -- the house in a judged kind's value is the house of the stations
@@ -32,4 +32,5 @@ returns g c =
           ∙ read-carried (g .J·Judged .house) (k .none) (k .single) (k .joined) no-house one-house both-houses (h .none) (h .single) (h .joined) from rest
           in
           subst (λ (x : House). Summary from rest x) (sym e) (summary from rest);
+      always = kinds-mean;
     }
