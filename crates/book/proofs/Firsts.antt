@@ -1,5 +1,5 @@
 -- The first entry that fails a test: one step of a search, and what an answer says.
-use Prim.Native.Nat.{ℕ, zero, suc, _+_, _<_, _≤_}
+use Prim.Native.Nat.{ℕ, zero, suc, _+_, _<_}
 use native.Mathlib.Omega.{arith}
 use native.Mathlib.Numerals.{add-one}
 use mathlib.Core.Path.{_≡_, refl, sym, _∙_, ap}
@@ -16,11 +16,13 @@ module _ {X : Type 0} (test : X → Bool) (xs : List X) (i : ℕ) (d : X) (below
   here : first-failing test i (drop i xs) ≡ cond (test (getD xs i d)) (first-failing test (i + 1) (drop (i + 1) xs)) (Some i)
   here = ap (first-failing test i) (drop-more xs i d below) ∙ ap (λ (n : ℕ). cond (test (getD xs i d)) (first-failing test n (drop (i + 1) xs)) (Some i)) (sym (add-one i))
 
-  pub passes : test (getD xs i d) ≡ true → first-failing test (i + 1) (drop (i + 1) xs) ≡ first-failing test i (drop i xs)
-  passes h = sym (here ∙ cond-true (test (getD xs i d)) _ _ h)
+  -- an entry x that was read there, and what its test said
+  module _ (x : X) (is : x ≡ getD xs i d) (so-far : first-failing test i (drop i xs) ≡ first-failing test 0 xs) where
+    pub went-on : true ≡ test x → first-failing test (i + 1) (drop (i + 1) xs) ≡ first-failing test 0 xs
+    went-on h = sym (here ∙ cond-true (test (getD xs i d)) _ _ (ap test (sym is) ∙ sym h)) ∙ so-far
 
-  pub fails : test (getD xs i d) ≡ false → first-failing test i (drop i xs) ≡ Some i
-  fails h = here ∙ cond-false (test (getD xs i d)) _ _ h
+    pub stopped : false ≡ test x → Some i ≡ first-failing test 0 xs
+    stopped h = sym (here ∙ cond-false (test (getD xs i d)) _ _ (ap test (sym is) ∙ sym h)) ∙ so-far
 
 -- none fails: each passes
 pub all-pass : {X : Type 0} (test : X → Bool) (n : ℕ) (xs : List X) → first-failing test n xs ≡ None → (i : ℕ) (d : X) → i < length xs → test (getD xs i d) ≡ true

@@ -2,7 +2,7 @@
 use Prim.Native.Nat.{ℕ, _<_, _≤_}
 use native.Mathlib.Omega.{arith}
 use mathlib.Core.Path.{_≡_, refl, sym, _∙_, ap, subst}
-use mathlib.Core.Bool.{Bool, true, false, _&&_, cond}
+use mathlib.Core.Bool.{Bool, true, false, _&&_}
 use mathlib.Core.List.{List}
 use lib.Dec.{eqb, leb}
 use lib.IntN.{ℤ, pos}
@@ -15,7 +15,7 @@ use Rattle.std.specs.Options.{isSome, mapped, orOther}
 use Rattle.std.specs.Orderings.{Decides}
 use Rattle.std.specs.Results.{Cases}
 use Rattle.std.specs.declared.result.Result.{Result}
-use Rattle.std.specs.declared.result.Result.the-variants.{Ok, Err}
+use Rattle.std.specs.declared.result.Result.the-variants.{Err}
 use Rattle.std.specs.declared.option.Option.{Option}
 use Rattle.std.specs.declared.option.Option.the-variants.{Some, None}
 use Rattle.book.specs.declared.fault.BookFault.{BookFault}
@@ -26,7 +26,7 @@ use Rattle.book.specs.Fields.{vertex-in}
 use Rattle.book.specs.Polygons.{origin, corner, after, edge, every, left-of, convex, within, Convex, Within}
 use Rattle.book.specs.Refusals.{answer, unless, first-failing, vertex-refusal}
 use Rattle.book.proofs.Bounds.{in-limits, from-limits}
-use Rattle.book.proofs.Everys.{every-decides, every-at}
+use Rattle.book.proofs.Everys.{every-decides}
 use Rattle.book.proofs.Firsts.{all-pass, none-fails}
 
 at-least : (z : ℤ) → Decides (leZ (pos 0) z) (pos 0 ≤ℤ z)

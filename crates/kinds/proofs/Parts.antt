@@ -1,10 +1,9 @@
 -- The laws of the house's parts, and their joinings within 64 bits.
-use mathlib.Core.Path.{_≡_, refl, sym, ap, _∙_}
-use Prim.Native.Nat.{ℕ, _+_, _*_, _≤_}
+use mathlib.Core.Path.{_≡_, refl, ap}
+use Prim.Native.Nat.{ℕ, _+_, _≤_}
 use native.Mathlib.Nat.{add-comm}
 use native.Mathlib.Omega.{arith}
-use lib.IntN.{ℤ, pos, negℤ, _+ℤ_, _*ℤ_, +ℤ-assoc, +ℤ-idr}
-use lib.Signed.{_≤ℤ_}
+use lib.IntN.{ℤ, _+ℤ_, +ℤ-assoc, +ℤ-idr}
 use Rattle.std.proofs.shelf.Signed.{ints}
 use Rattle.std.specs.Options.{orOther}
 use Rattle.std.specs.declared.option.Option.{Option}
@@ -20,7 +19,7 @@ use Rattle.kinds.specs.declared.mass_moment.MassMoment.{MassMoment}
 use Rattle.kinds.specs.declared.running_load.RunningLoad.{RunningLoad}
 use Rattle.kinds.specs.Floors.{no-floor, both-floors}
 use Rattle.kinds.specs.Houses.{no-house, both-houses}
-use Rattle.kinds.specs.Loads.{least-of, taken, left-of, no-load, one-load, both-loads, held-loads, Margin, Bounded}
+use Rattle.kinds.specs.Loads.{least-of, taken, left-of, one-load, both-loads, held-loads, Margin, Bounded}
 use Rattle.kinds.specs.Moments.{no-moment, one-moment, both-moments, held-moments, Within}
 use Rattle.kinds.proofs.Ints.{held}
 use Rattle.kinds.proofs.Lowering.{load-by, loads-right, loads-assoc, off, margin-off, margin-more, margin-least}

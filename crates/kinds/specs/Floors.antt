@@ -5,7 +5,6 @@ use lib.Dec.{ltb}
 use Rattle.std.specs.Options.{orOther}
 use Rattle.std.specs.declared.option.Option.the-variants.{Some, None}
 use Rattle.book.specs.declared.station.Station.{Station}
-use Rattle.kinds.specs.declared.floor_record.Over.{Over}
 use Rattle.kinds.specs.declared.floor_record.FloorRecord.{FloorRecord}
 
 abbrev pub no-floor : FloorRecord

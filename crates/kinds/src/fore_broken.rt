@@ -1,4 +1,3 @@
-ghost use mathlib.Core.Path.{_≡_};
 ghost use Rattle.kinds.specs.Tests.{below-zero};
 use crate::house::House;
 use crate::house::HouseKind;

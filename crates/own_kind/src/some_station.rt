@@ -1,4 +1,3 @@
-ghost use mathlib.Core.Path.{_≡_};
 ghost use Rattle.own_kind.specs.Heavies.{holds};
 use crate::heaviest::Heaviest;
 use crate::heaviest::HeaviestKind;

@@ -1,11 +1,11 @@
 -- What the reader answers is exactly what a writer wrote.
-use Prim.Native.Nat.{ℕ, _+_, _-_, _*_, _^_, _≤_, _<_, min}
+use Prim.Native.Nat.{ℕ, _+_, _-_, _^_, _≤_, _<_, min}
 use native.Mathlib.Omega.{arith}
 use mathlib.Core.Path.{_≡_, refl, sym, _∙_, ap, subst}
-use mathlib.Core.Bool.{Bool, true, false, cond}
+use mathlib.Core.Bool.{Bool, true, false}
 use mathlib.Core.List.{List, [], _∷_, _++_}
 use lib.Dec.{eqb, ltb}
-use lib.ListN.{length, getD, take, drop, length-append, length-drop}
+use lib.ListN.{length, getD, take, drop, length-append}
 use mir.Val.{toZ, ofZ, SFits}
 use mir.ValLaws.{ofZ-fits}
 use mir.Syntax.{w32}
@@ -159,9 +159,6 @@ header-back bs f h n k =
     let r : two (counted-of f) ≡ two (word bs 0) = ap two (sym n) in
     let s : two (kind-of f) ≡ two (word bs 2) = ap two (sym k) in
     ap (λ (l : List ℕ). l ++ two (kind-of f)) (r ∙ p) ∙ ap (λ (l : List ℕ). (getD bs 0 0 ∷ getD bs 1 0 ∷ []) ++ l) (s ∙ q)
-
-encode-parts : (c : Call) → encode c ≡ (two (counted-of (form-of c)) ++ two (kind-of (form-of c))) ++ together (body-of c)
-encode-parts c = refl
 
 record Front (bs : List ℕ) (at : ℕ) (c : Call) (next : ℕ) : Type 0 where
   whole : 4 ≤ length bs

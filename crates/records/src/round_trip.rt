@@ -1,7 +1,5 @@
 ghost use mathlib.Core.Path.{_≡_};
-ghost use lib.ListN.{length};
 ghost use Rattle.std.specs.Results.{Cases};
-ghost use Rattle.records.specs.Records.{encode};
 ghost use Rattle.records.specs.Writing.{Finished, Refused};
 use crate::call::Call;
 use crate::fault::RecordFault;

@@ -1,11 +1,9 @@
 ghost use mathlib.Core.Path.{_≡_};
 ghost use mathlib.Core.Bool.{cond};
-ghost use mathlib.Core.List.{List, [], _∷_};
+ghost use mathlib.Core.List.{[], _∷_};
 ghost use denote.Ref.{name};
-ghost use mir.Val.{ofZ};
-ghost use mir.Syntax.{w32};
 ghost use Rattle.std.specs.Results.{Cases};
-ghost use Rattle.records.specs.Records.{two, four, body-of, fields-of};
+ghost use Rattle.records.specs.Records.{two, four, body-of};
 ghost use Rattle.records.specs.Writing.{Put, Finished, Refused};
 use crate::call::Call;
 use crate::fault::RecordFault;

@@ -1,9 +1,3 @@
-use Prim.Native.Nat.{_+_, _*_, _≤_}
-use mathlib.Core.Path.{_≡_}
-use lib.IntN.{pos, _+ℤ_}
-use lib.ListN.{drop}
-use Rattle.book.specs.Spans.{Span}
-use Rattle.book.specs.Sums.{mass-of, moment-of}
 use Rattle.book.proofs.Adding.{Added}
 use Rattle.book.proofs.totals.summed.Given as given
 

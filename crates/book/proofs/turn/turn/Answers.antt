@@ -2,8 +2,7 @@ use Prim.Native.Nat.{_^_}
 use native.Mathlib.Omega.{arith}
 use borrow.Author.Needs.{needs}
 use mathlib.Core.Path.{_≡_, _∙_, ap}
-use mathlib.Core.Bool.{true}
-use lib.IntN.{ℤ, pos, negℤ, _-ℤ_, _*ℤ_}
+use lib.IntN.{ℤ, _-ℤ_, _*ℤ_}
 use mir.Val.{SFits}
 use mir.Facts.{sfits-widen}
 use mir.Syntax.{w64, w128}

@@ -1,10 +1,9 @@
-use Prim.Native.Nat.{_≤_}
 use native.Mathlib.Omega.{arith}
-use mathlib.Core.Path.{_≡_, sym, _∙_, ap, subst}
+use mathlib.Core.Path.{sym, _∙_, ap, subst}
 use lib.ListN.{length, drop, length-drop}
 use Rattle.kinds.specs.declared.house.House.{House}
 use Rattle.kinds.specs.Direct.{Summary}
-use Rattle.kinds.specs.Houses.{no-house, one-house, both-houses, house-at}
+use Rattle.kinds.specs.Houses.{no-house, one-house, both-houses}
 use Rattle.kinds.proofs.Folding.{read-carried}
 use Rattle.kinds.proofs.Rows.{summary, kinds-mean}
 use Rattle.kinds.proofs.joining.house_joined_from.Needs as need

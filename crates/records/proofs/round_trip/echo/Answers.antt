@@ -1,4 +1,4 @@
-use mathlib.Core.Path.{_≡_, refl, sym}
+use mathlib.Core.Path.{refl}
 use Rattle.records.proofs.Exacts.{stands-written}
 use Rattle.records.proofs.round_trip.echo.Needs as need
 

@@ -3,7 +3,7 @@ use mathlib.Core.List.{List, [], _∷_}
 use Prim.Native.Nat.{ℕ}
 use Rattle.std.proofs.shelf.Results.{err-from-errBy}
 use Rattle.records.specs.Forms.{kind-of, counted-of}
-use Rattle.records.specs.Records.{two, form-of, body-of}
+use Rattle.records.specs.Records.{two, body-of}
 use Rattle.records.proofs.Puts.{put-as, put-then, put-stop, finished, refused}
 use Rattle.records.proofs.writer.put_call.Needs as need
 

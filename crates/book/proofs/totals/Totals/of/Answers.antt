@@ -1,4 +1,3 @@
-use mathlib.Core.Path.{_≡_}
 use Rattle.book.specs.Refusals.{book-refusal}
 use Rattle.book.specs.Sums.{totals-of}
 use Rattle.book.proofs.Shapes.{same-refusal}

@@ -1,5 +1,4 @@
-use mathlib.Core.Path.{sym, _∙_, subst}
-use Rattle.kinds.specs.Moments.{Within, both-moments}
+use mathlib.Core.Path.{_∙_}
 use Rattle.kinds.proofs.Parts.{moments-held, moments-join}
 use Rattle.kinds.proofs.mass_moment.MassMomentKind.join.Needs as need
 

@@ -1,4 +1,4 @@
-use Rattle.kinds.proofs.Parts.{moments-right, moments-assoc}
+use Rattle.kinds.proofs.Parts.{moments-assoc}
 use Rattle.kinds.proofs.mass_moment.MassMomentKind.the-impl.Needs as need
 
 pub assoc-law : need.assoc-law

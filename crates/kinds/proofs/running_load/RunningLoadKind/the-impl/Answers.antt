@@ -1,4 +1,4 @@
-use Rattle.kinds.proofs.Lowering.{loads-right, loads-assoc}
+use Rattle.kinds.proofs.Lowering.{loads-assoc}
 use Rattle.kinds.proofs.running_load.RunningLoadKind.the-impl.Needs as need
 
 pub assoc-law : need.assoc-law
