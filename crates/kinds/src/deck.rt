@@ -7,7 +7,7 @@ ghost use Rattle.kinds.specs.Houses.{house-at};
 ghost use Rattle.kinds.specs.Meaning.{Kinds-mean};
 use crate::beside::Beside;
 use crate::house::House;
-use crate::joining::beside_joined_from;
+use crate::joining::beside_joined;
 use crate::joining::house_joined_from;
 use crate::joining::joined_from;
 use crate::joining::joined_meets;
@@ -43,5 +43,5 @@ pub fn meets_from<T: Test>(test: &T, stations: &[Station], from: usize) -> bool
 pub fn beside_from<X: Kind, Y: Kind>(stations: &[Station], from: usize) -> Beside<X, Y>
     ensures { λ r. ⌜ (All-lawful (now (stations .entry)) → length (now (stations .entry)) ≤ 256 → (X·Kind .reading (r .one) ≡ read-at (X·Kind .none) (X·Kind .single) (X·Kind .joined) from (drop from (now (stations .entry)))) × (Y·Kind .reading (r .other) ≡ read-at (Y·Kind .none) (Y·Kind .single) (Y·Kind .joined) from (drop from (now (stations .entry))))) ⌝ }
 {
-    beside_joined_from(stations, from)
+    beside_joined(stations, from)
 }

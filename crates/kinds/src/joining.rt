@@ -43,10 +43,7 @@ pub(crate) fn joined_meets<T: Test>(test: &T, stations: &[Station], from: usize)
 }
 
 // Two kinds side by side, of the same.
-pub(crate) fn beside_joined_from<X: Kind, Y: Kind>(
-    stations: &[Station],
-    from: usize,
-) -> Beside<X, Y>
+pub(crate) fn beside_joined<X: Kind, Y: Kind>(stations: &[Station], from: usize) -> Beside<X, Y>
     ensures { λ r. ⌜ (All-lawful (now (stations .entry)) → length (now (stations .entry)) ≤ 256 → (X·Kind .reading (r .one) ≡ read-at (X·Kind .none) (X·Kind .single) (X·Kind .joined) from (drop from (now (stations .entry)))) × (Y·Kind .reading (r .other) ≡ read-at (Y·Kind .none) (Y·Kind .single) (Y·Kind .joined) from (drop from (now (stations .entry))))) ⌝ }
 {
     joined_from::<Beside<X, Y>>(stations, from)

@@ -1,7 +1,7 @@
 use mathlib.Core.Path.{_∙_, ap}
 use lib.ListN.{drop}
 use Rattle.kinds.proofs.Folding.{one-side, other-side}
-use Rattle.kinds.proofs.joining.beside_joined_from.Needs as need
+use Rattle.kinds.proofs.joining.beside_joined.Needs as need
 
 -- each side of a pair is carried by itself
 pub returns : need.returns
