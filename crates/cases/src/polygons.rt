@@ -104,7 +104,7 @@ fn print_points(rt: &LibcRuntime) -> io::Result<()> {
     print_point(rt, &envelope, i64::MIN, i64::MAX)
 }
 
-pub fn run(rt: &LibcRuntime) -> io::Result<()> {
+pub(crate) fn run(rt: &LibcRuntime) -> io::Result<()> {
     let left = turns_left(STAR);
     println!(rt, "star turns left at each corner: {left}")?;
     print_envelope(rt, "star", &STAR)?;

@@ -48,7 +48,7 @@ fn print_room(rt: &LibcRuntime) -> io::Result<()> {
     print_bytes(rt, &memory)
 }
 
-pub fn run(rt: &LibcRuntime) -> io::Result<()> {
+pub(crate) fn run(rt: &LibcRuntime) -> io::Result<()> {
     let load: [u8; 12] = [8, 0, 1, 0, 1, 0, 250, 0, 0, 0, 0xaa, 0xbb];
     print_read(rt, "load and two bytes more", &load, 0)?;
     print_read(rt, "those two bytes", &load, 10)?;

@@ -27,7 +27,7 @@ pub struct Answer<'a> {
 
 impl<'a> Answer<'a> {
     // The answer to this line, or none where it says nothing.
-    pub fn to(line: &'a [u8]) -> Result<Option<Answer<'a>>, Wrong<'a>> {
+    pub(crate) fn to(line: &'a [u8]) -> Result<Option<Answer<'a>>, Wrong<'a>> {
         let Ok(line) = from_utf8(line) else {
             return Err(Wrong::NotText);
         };

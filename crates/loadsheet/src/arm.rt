@@ -18,7 +18,7 @@ pub enum Arm {
 }
 
 impl Arm {
-    pub fn of(arm: i32) -> Arm
+    pub(crate) fn of(arm: i32) -> Arm
         ensures { λ r. ⌜ elim r [ Ahead cm ↦ (0 < cm) × (arm ≡ negℤ (pos cm)) | Datum ↦ arm ≡ pos 0 | Aft cm ↦ (0 < cm) × (arm ≡ pos cm) ] ⌝ }
     {
         let cm = arm.unsigned_abs();

@@ -17,7 +17,7 @@ pub struct BookText {
 
 impl BookText {
     // The book that these bytes tell, or their first line that cannot be read.
-    pub fn read(heap: Global, bytes: &[u8]) -> Result<BookText, BadLine<'_>>
+    pub(crate) fn read(heap: Global, bytes: &[u8]) -> Result<BookText, BadLine<'_>>
         ensures { λ r. ⌜ made r (λ book. book .lists .basic ≡ Some (book .basic)) ⌝ }
     {
         let text = text_of(bytes)?;

@@ -7,7 +7,7 @@ use kinds::Over;
 use kinds::RunningLoad;
 
 // The deck from a station on.
-pub fn by_hand(stations: &[Station], from: usize) -> House {
+pub(crate) fn by_hand(stations: &[Station], from: usize) -> House {
     let moments = sums(stations, from);
     House {
         moments,
@@ -82,7 +82,7 @@ fn first_over(stations: &[Station], from: usize) -> Option<Over> {
 }
 
 // Whether two summaries are the same in every part.
-pub fn agree(a: &House, b: &House) -> bool {
+pub(crate) fn agree(a: &House, b: &House) -> bool {
     a.moments.mass == b.moments.mass
         && a.moments.moment == b.moments.moment
         && a.load.total == b.load.total

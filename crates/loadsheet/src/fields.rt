@@ -17,7 +17,7 @@ pub struct Fields<'a> {
 }
 
 impl<'a> Fields<'a> {
-    pub fn of(told: &'a str) -> Fields<'a> {
+    pub(crate) fn of(told: &'a str) -> Fields<'a> {
         Fields {
             rest: told.split_whitespace(),
             wrong: None,
@@ -25,11 +25,11 @@ impl<'a> Fields<'a> {
     }
 
     // The word that says what the line is, if the line has any.
-    pub fn first(&mut self) -> Option<&'a str> {
+    pub(crate) fn first(&mut self) -> Option<&'a str> {
         self.rest.next()
     }
 
-    pub fn word(&mut self, field: &'static str) -> &'a str
+    pub(crate) fn word(&mut self, field: &'static str) -> &'a str
         ensures stays { λ _. ⌜ (isSome (now (self .entry) .wrong) ≡ true → isSome (now (self .exit) .wrong) ≡ true) ⌝ }
     {
         match self.rest.next() {
@@ -41,7 +41,7 @@ impl<'a> Fields<'a> {
         }
     }
 
-    pub fn number<N: Number>(&mut self, field: &'static str) -> N
+    pub(crate) fn number<N: Number>(&mut self, field: &'static str) -> N
     where
         N::Err: Drop,
         ensures stays { λ _. ⌜ (isSome (now (self .entry) .wrong) ≡ true → isSome (now (self .exit) .wrong) ≡ true) ⌝ }
@@ -51,7 +51,7 @@ impl<'a> Fields<'a> {
     }
 
     // A limit, or `-` for none.
-    pub fn limit(&mut self, field: &'static str) -> Option<u32>
+    pub(crate) fn limit(&mut self, field: &'static str) -> Option<u32>
         ensures stays { λ _. ⌜ (isSome (now (self .entry) .wrong) ≡ true → isSome (now (self .exit) .wrong) ≡ true) ⌝ }
     {
         match self.word(field) {
@@ -61,7 +61,7 @@ impl<'a> Fields<'a> {
     }
 
     // Keeps what is wrong, unless something was wrong before.
-    pub fn refuse(&mut self, wrong: Wrong<'a>)
+    pub(crate) fn refuse(&mut self, wrong: Wrong<'a>)
         ensures { λ _. ⌜ isSome (now (self .exit) .wrong) ≡ true ⌝ }
     {
         if self.wrong.is_none() {
@@ -70,7 +70,7 @@ impl<'a> Fields<'a> {
     }
 
     // What is wrong, if anything is: no word may be left.
-    pub fn end(mut self) -> Result<(), Wrong<'a>>
+    pub(crate) fn end(mut self) -> Result<(), Wrong<'a>>
         ensures { λ r. ⌜ (isOk r ≡ true → isSome (self .entry .wrong) ≡ false) ⌝ }
     {
         if let Some(wrong) = self.wrong {

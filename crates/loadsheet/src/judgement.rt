@@ -15,7 +15,7 @@ pub struct Kept {
 
 impl Kept {
     // The envelope is made first, and then the zones and the frames are checked; the first fault ends it.
-    pub fn by(book: &BookText, totals: Totals) -> Result<Kept, BookFault> {
+    pub(crate) fn by(book: &BookText, totals: Totals) -> Result<Kept, BookFault> {
         let lists = &book.lists;
         let envelope = Envelope::new(lists.vertices.as_slice())?;
         let zones = lists.zones.as_slice();

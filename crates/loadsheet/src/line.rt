@@ -17,7 +17,7 @@ pub trait Line: Sized {
 }
 
 // What a line tells before its comment.
-pub fn told(line: &str) -> &str
+pub(crate) fn told(line: &str) -> &str
     ensures bare { λ r. ⌜ ((k : ℕ) → k < length (now r) → getD (now r) k 0 ≡ 35 → ⊥) ⌝ }
     ensures front { λ r. ⌜ now r ≡ take (length (now r)) (now (line .entry)) ⌝ }
 {
@@ -28,7 +28,7 @@ pub fn told(line: &str) -> &str
 }
 
 // What is told, or none where nothing is.
-pub fn read_told<L: Line + Drop>(told: &str) -> Result<Option<L>, Wrong<'_>> {
+pub(crate) fn read_told<L: Line + Drop>(told: &str) -> Result<Option<L>, Wrong<'_>> {
     let mut fields = Fields::of(told);
     let Some(first) = fields.first() else {
         return Ok(None);

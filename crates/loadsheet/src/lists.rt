@@ -39,7 +39,7 @@ pub struct Lists {
 }
 
 impl Lists {
-    pub fn new(heap: Global) -> Lists {
+    pub(crate) fn new(heap: Global) -> Lists {
         Lists {
             basic: None,
             stations: Vec::new(heap),
@@ -51,7 +51,7 @@ impl Lists {
     }
 
     // Adds the entries of a text, and says the number of its last line. An empty text ends in its first line.
-    pub fn fill<'a>(&mut self, text: &'a str) -> Result<usize, BadLine<'a>> {
+    pub(crate) fn fill<'a>(&mut self, text: &'a str) -> Result<usize, BadLine<'a>> {
         let mut number: usize = 0;
         for line in text.lines() {
             number = number.saturating_add(1);
