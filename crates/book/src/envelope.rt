@@ -7,7 +7,7 @@ ghost use Rattle.book.specs.Refusals.{vertex-refusal};
 use crate::vertex::Vertex;
 
 // The polygon in which trim is kept. Every envelope that exists has 3 to 16 vertices in their limits,
-// each strictly inside every edge of the others. It holds its vertices itself, so that making one never
+// each strictly left of every edge that is not its own. It holds its vertices itself, so that making one never
 // fails for want of memory; those past the count are unused.
 #[derive(Clone, Copy)]
 pub struct Envelope {

@@ -28,7 +28,7 @@ pub enum BookFault {
     VertexCount,
     // A field of this vertex is out of its limits.
     VertexField { vertex: usize },
-    // Some vertex does not lie strictly inside some edge of the others.
+    // Some vertex does not lie strictly left of some edge that is not its own.
     NotConvex,
 }
 
