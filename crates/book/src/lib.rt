@@ -1,5 +1,7 @@
 // Layer 2: what a book holds (stations, the basic record, zones, frames, the envelope), and which of its
 // rules a given book breaks first.
+#![tactic(auto)]
+
 mod basic;
 mod envelope;
 mod fault;

@@ -1,5 +1,7 @@
 // Cases of the two lowest layers, run and compared with what they should answer: polygons that are no
 // envelope, points at an edge, and records that are damaged.
+#![tactic(auto)]
+
 mod polygons;
 mod records_read;
 

@@ -1,4 +1,6 @@
 // Layer 3, edits: the faults of a sheet, and kilograms taken off and put onto stations with the nodes that follow.
+#![tactic(auto)]
+
 mod call;
 mod carrying;
 mod edit;

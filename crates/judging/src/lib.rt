@@ -1,4 +1,6 @@
 // Judges a deck at the masses aboard: the first broken limit, by a verdict code and a place.
+#![tactic(auto)]
+
 mod aft;
 mod bending;
 mod breach;

@@ -1,5 +1,7 @@
 // Kinds of summary: what a range of stations comes to, joined nose to tail. The interface, the delivered
 // kinds, judged kinds, tests, and what the joined summaries mean.
+#![tactic(auto)]
+
 mod at_least;
 mod beside;
 mod deck;

@@ -1,5 +1,7 @@
 // Reads the book of a load-and-trim sheet, prints it back, its totals and whether trim and tip are kept,
 // and then echoes each call on standard input through the record writer and reader.
+#![tactic(auto)]
+
 mod answer;
 mod arm;
 mod book_text;

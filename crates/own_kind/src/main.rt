@@ -1,4 +1,6 @@
 // A kind of summary and a test from outside the library: what it takes to write one's own.
+#![tactic(auto)]
+
 mod heaviest;
 mod some_station;
 

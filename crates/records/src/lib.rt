@@ -1,5 +1,7 @@
 // Layer 1: call records. A call is written as a little-endian record into memory that the caller lends,
 // and read back from bytes.
+#![tactic(auto)]
+
 mod call;
 mod fault;
 mod form;

@@ -1,4 +1,6 @@
 // Runs of calls on a sheet, and the law over every one of them.
+#![tactic(auto)]
+
 mod ask;
 mod carrying;
 mod draft;

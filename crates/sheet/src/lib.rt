@@ -1,4 +1,6 @@
 // Layer 3: the sheet. Its states, its calls, and what any run of them answers and leaves.
+#![tactic(auto)]
+
 mod answer;
 mod asking;
 mod call;

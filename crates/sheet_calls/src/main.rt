@@ -1,5 +1,7 @@
 // Reads the book of a load-and-trim sheet, prints it back, its totals and whether trim and tip are kept,
 // and then opens a sheet on it and carries out each call on standard input.
+#![tactic(auto)]
+
 mod answer;
 mod arm;
 mod asked;

@@ -1,4 +1,6 @@
 // Stages of loading: edits in the form of call records, carried out one by one, judged after each, and taken back.
+#![tactic(auto)]
+
 mod back;
 mod call;
 mod ending;

@@ -1,4 +1,6 @@
 // The segment tree over a deck's stations, for every kind of summary: node memory lent by the caller.
+#![tactic(auto)]
+
 mod calls;
 mod descent;
 mod inner;
