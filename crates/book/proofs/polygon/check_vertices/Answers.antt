@@ -2,4 +2,4 @@ use Rattle.book.proofs.Shapes.{exactly_envelopes}
 use Rattle.book.proofs.polygon.check_vertices.Goals as goal
 
 pub returns : goal.returns
-returns c = record { value = c.first-fault.ensures; exactly = exactly_envelopes c.args.given.now c.first-fault.ensures }
+returns c = record { value = c.first_fault.ensures; exactly = exactly_envelopes c.args.given.now c.first_fault.ensures }

@@ -4,5 +4,5 @@ use Rattle.book.specs.Polygons.{origin}
 use Rattle.book.proofs.Firsts.{all_pass}
 use Rattle.book.proofs.polygon.first_fault.Goals as goal
 
-pub is-convex-requires : goal.is-convex-requires
-is-convex-requires c = λ i l. all_pass vertex_in 0 c.args.given.now (sym c.in-default.ensures.value) i origin l
+pub is_convex-requires : goal.is_convex-requires
+is_convex-requires c = λ i l. all_pass vertex_in 0 c.args.given.now (sym c.in_default.ensures.value) i origin l

@@ -24,11 +24,14 @@ loop-i-preserved c =
       take_more_set vs i x room ∙ ap (λ (l : List Vertex). l ++ (x ∷ [])) c.loop-i.invariant.1 ∙ sym (take_more given i origin c.loop-i-test.true),
     )
 
-pub invariant-of-result : goal.invariant-of-result
-invariant-of-result c =
+pub invariant_of-result : goal.invariant_of-result
+invariant_of-result c =
     let given = c.args.given.now in
     let same = copied c.loop-i.i (length given) c.loop-i.vertices given refl c.loop-i-test.false c.loop-i.auto.i-end c.loop-i.invariant.1 in
-    ((is_envelope given c.requires).most, (ap (λ (l : List Vertex). is_some (vertex_refusal l)) same ∙ ap is_some c.requires, tt))
+    record {
+      most = (is_envelope given c.requires).most;
+      sound = ap (λ (l : List Vertex). is_some (vertex_refusal l)) same ∙ ap is_some c.requires;
+    }
 
 pub returns : goal.returns
 returns c = copied c.loop-i.i (length c.args.given.now) c.loop-i.vertices c.args.given.now refl c.loop-i-test.false c.loop-i.auto.i-end c.loop-i.invariant.1

@@ -3,8 +3,8 @@ use Rattle.std.proofs.lemmas.Int.{to_z-of_z}
 use Rattle.book.proofs.Products.{wide_arm, wide_mass, moment_fits}
 use Rattle.book.proofs.station.times.Goals as goal
 
-pub overflow-mul-result : goal.overflow-mul-result
-overflow-mul-result c =
+pub overflow_mul-result : goal.overflow_mul-result
+overflow_mul-result c =
     let m : c.args.mass < 2 ^ 32 = search rules in
     let a : SFits w32 c.args.arm = c.ranges.arm in
     rw (wide_mass c.args.mass m, wide_arm c.args.arm a) (moment_fits c.args.mass c.args.arm m a)

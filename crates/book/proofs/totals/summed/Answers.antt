@@ -36,18 +36,18 @@ module _ (b : Basic) (ss : List Station) (i : ℕ) (d : Station) (checked : book
       (sym (to_z-of_z w64 _ (more_moment r is) ∙ ap (λ (z : ℤ). moment +ℤ z) is))
       (added_more b ss i mass moment so_far (get_or ss i d) ((passed b ss checked).lawful i d below) (drop_more ss i d below))
 
-pub overflow-add-mass : goal.overflow-add-mass
-overflow-add-mass c = more_mass _ _ c.loop-station.station-index _ c.requires c.loop-station-test.true _ _ c.loop-station.invariant
+pub overflow_add-mass : goal.overflow_add-mass
+overflow_add-mass c = more_mass _ _ c.loop-station.station-index _ c.requires c.loop-station-test.true _ _ c.loop-station.invariant
 
-pub overflow-add-moment : goal.overflow-add-moment
-overflow-add-moment c =
+pub overflow_add-moment : goal.overflow_add-moment
+overflow_add-moment c =
     more_moment _ _ c.loop-station.station-index _ c.requires c.loop-station-test.true _ _ c.loop-station.invariant _
-    (to_z-of_z w64 c.moment-moment.result (record { sfits = c.moment-moment.type-inv }) ∙ c.moment-moment.ensures)
+    (to_z-of_z w64 c.moment-moment.result (record { sfits = c.moment-moment.type_inv }) ∙ c.moment-moment.ensures)
 
 pub loop-station-preserved : goal.loop-station-preserved
 loop-station-preserved c =
     turned _ _ c.loop-station.station-index _ c.requires c.loop-station-test.true _ _ c.loop-station.invariant _
-    (to_z-of_z w64 c.moment-moment.result (record { sfits = c.moment-moment.type-inv }) ∙ c.moment-moment.ensures)
+    (to_z-of_z w64 c.moment-moment.result (record { sfits = c.moment-moment.type_inv }) ∙ c.moment-moment.ensures)
 
 pub returns : goal.returns
 returns c =

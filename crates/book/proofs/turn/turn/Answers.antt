@@ -59,8 +59,8 @@ product-requires-2 c =
     let w : SFits w128 (p.mass -ℤ a.mass) = fits_reach p.mass a.mass fpm fam in
     simp to_z-of_z (moments a b (in_limits a c.requires.0) (in_limits b c.requires.1), reach p.mass a.mass fpm fam)
 
-pub overflow-sub-result : goal.overflow-sub-result
-overflow-sub-result c =
+pub overflow_sub-result : goal.overflow_sub-result
+overflow_sub-result c =
     let r = c.product.result in
     let s = c.product-2.result in
     let f : SFits w128 r = fits r (wider r c.product.ensures.small) in

@@ -8,6 +8,6 @@ use Rattle.judging.proofs.closing.totals.Goals as goal
 pub returns : goal.returns
 returns c ss is all few basic =
     let b = c.args.basic.now in
-    c.with-deck.ensures
+    c.with_deck.ensures
     ∙ ap (λ (m : MassMoment). held_totals b m) (ap (λ (h : House). h.moments) is ∙ house_load 0 ss)
     ∙ totals_held b ss basic all few

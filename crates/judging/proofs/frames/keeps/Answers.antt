@@ -9,5 +9,5 @@ pub returns : goal.returns
 returns g c tree =
     let f = c.args.frame.now in
     c.bears.ensures
-    ∙ ap (λ (m : MassMoment). frame_bears f m) (c.side-load.ensures tree)
+    ∙ ap (λ (m : MassMoment). frame_bears f m) (c.side_load.ensures tree)
     ∙ ap (λ (z : ℤ). le_z z (pos f.limit)) (side_bent f.side f.arm c.args.stations.now)

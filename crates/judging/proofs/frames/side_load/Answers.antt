@@ -10,19 +10,19 @@ pub returns-in-Fore : goal.returns-in-Fore
 returns-in-Fore g c tree =
     let f = c.args.frame.now in
     let ss = c.args.stations.now in
-    let k = c.ahead-ends.result in
-    let le : k ≤ length ss = omega (arith, c.ahead-ends.ensures, ahead_on_deck f ss) in
-    ap (λ (h : House). h.moments) (c.house-of.ensures ss refl le tree)
+    let k = c.ahead_ends.result in
+    let le : k ≤ length ss = omega (arith, c.ahead_ends.ensures, ahead_on_deck f ss) in
+    ap (λ (h : House). h.moments) (c.house_of.ensures ss refl le tree)
     ∙ house_load 0 _
-    ∙ ap load_of (ahead_part f ss k c.ahead-ends.ensures)
+    ∙ ap load_of (ahead_part f ss k c.ahead_ends.ensures)
     ∙ ap (λ (side : Side). load_of (on_side side f.arm ss)) (sym c.in-Fore.is)
 
 pub returns-in-Aft : goal.returns-in-Aft
 returns-in-Aft g c tree =
     let f = c.args.frame.now in
     let ss = c.args.stations.now in
-    let k = c.aft-begins.result in
-    ap (λ (h : House). h.moments) (c.house-of-in-Aft.ensures ss refl (omega arith) tree)
+    let k = c.aft_begins.result in
+    ap (λ (h : House). h.moments) (c.house_of-in-Aft.ensures ss refl (omega arith) tree)
     ∙ house_load k _
-    ∙ ap load_of (aft_part f ss k c.aft-begins.ensures)
+    ∙ ap load_of (aft_part f ss k c.aft_begins.ensures)
     ∙ ap (λ (side : Side). load_of (on_side side f.arm ss)) (sym c.in-Aft.is)

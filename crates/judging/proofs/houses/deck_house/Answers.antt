@@ -8,6 +8,6 @@ pub returns : goal.returns
 returns g c =
     let ss = c.args.stations.now in
     record {
-      house = λ tree. c.house-of.ensures ss refl (omega arith) tree ∙ ap (house_at 0) (take_all _ ss (omega arith));
+      house = λ tree. c.house_of.ensures ss refl (omega arith) tree ∙ ap (house_at 0) (take_all _ ss (omega arith));
       few = λ tree. few g.J.Kind c.args.nodes.now ss tree;
     }

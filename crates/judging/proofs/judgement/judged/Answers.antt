@@ -14,8 +14,8 @@ returns g c =
     let fs = limits.frames.now in
     record {
       value = λ all basic checked tree.
-          c.verdict-of.ensures
+          c.verdict_of.ensures
           ∙ judges c.args.occasion c.args.basic.now ss zs fs (polygon limits.envelope.now)
-          (c.check-all.ensures tree all basic (neither (zone_refusal (length ss) zs) (frame_refusal fs) checked).0);
+          (c.check_all.ensures tree all basic (neither (zone_refusal (length ss) zs) (frame_refusal fs) checked).0);
       means = code_0_is_kept;
     }

@@ -12,14 +12,14 @@ loop-i-init c =
     let whole = ap (count_aft c.args.frame.now) (take_all (length ss) ss (omega arith)) in
     omega (arith, whole)
 
-pub returns-then-not-is-aft : goal.returns-then-not-is-aft
-returns-then-not-is-aft c =
+pub returns-then-not-is_aft : goal.returns-then-not-is_aft
+returns-then-not-is_aft c =
     let f = c.args.frame.now in
-    let stop = suffix_len-take_no (λ (s : Station). lt_z f.arm s.arm) c.args.stations.now c.loop-i.i _ c.loop-i-test.true c.loop-i.auto.i (sym c.if-not-is-aft.ensures) in
+    let stop = suffix_len-take_no (λ (s : Station). lt_z f.arm s.arm) c.args.stations.now c.loop-i.i _ c.loop-i-test.true c.loop-i.auto.i (sym c.if-not-is_aft.ensures) in
     omega (arith, stop, c.loop-i.invariant, c.loop-i-test.true)
 
 pub loop-i-preserved : goal.loop-i-preserved
 loop-i-preserved c =
     let f = c.args.frame.now in
-    let more = suffix_len-take_yes (λ (s : Station). lt_z f.arm s.arm) c.args.stations.now c.loop-i.i _ c.loop-i-test.true c.loop-i.auto.i (sym c.if-not-is-aft.ensures) in
+    let more = suffix_len-take_yes (λ (s : Station). lt_z f.arm s.arm) c.args.stations.now c.loop-i.i _ c.loop-i-test.true c.loop-i.auto.i (sym c.if-not-is_aft.ensures) in
     omega (arith, more, c.loop-i.invariant, c.loop-i-test.true)

@@ -11,4 +11,4 @@ returns g c tree le =
     let ss = c.args.stations.now in
     let zone = c.args.zone.now in
     c.bears.ensures
-    ∙ ap (λ (m : MassMoment). zone_bears zone m) (ap (λ (h : House). h.moments) (c.house-of-house.ensures ss refl le tree) ∙ house_load zone.from (zone_stations zone ss))
+    ∙ ap (λ (m : MassMoment). zone_bears zone m) (ap (λ (h : House). h.moments) (c.house_of-house.ensures ss refl le tree) ∙ house_load zone.from (zone_stations zone ss))

@@ -17,12 +17,12 @@ returns g c =
     let n = length-drop from ss in
     record {
       joined = λ all few.
-          let deck = c.joined-from.ensures all few in
+          let deck = c.joined_from.ensures all few in
           h.reads (length rest) (omega arith) deck.1
           ∙ ap g.J.Judged.house deck.0
           ∙ read_carried g.J.Judged.house k.none k.single k.joined no_house one_house both_houses h.none h.single h.joined from rest;
       means = λ all few.
-          let deck = c.joined-from.ensures all few in
+          let deck = c.joined_from.ensures all few in
           let e =
           h.reads (length rest) (omega arith) deck.1
           ∙ ap g.J.Judged.house deck.0

@@ -4,6 +4,6 @@ use Rattle.records.proofs.round_trip.echo.Goals as goal
 
 pub returns : goal.returns
 returns c =
-    let d = c.in-ok-write-front.ensures in
-    let e = c.read.ensures.exactly.complete _ _ (stands_written c.in-width.ensures d) in
+    let d = c.in_ok-write_front.ensures in
+    let e = c.read.ensures.exactly.complete _ _ (stands_written c.in_width.ensures d) in
     rw e (refl, d)

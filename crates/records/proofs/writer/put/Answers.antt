@@ -16,4 +16,4 @@ returns c =
     let n = length c.args.field.now in
     let e : n ≡ (at + n) - at = omega arith in
     let room : at + n ≤ length c.args.out.now = omega arith in
-    put_one room refl (putMid_over at _ c.args.out.now c.args.field.now _ c.copy-from-slice.ensures.after e)
+    put_one room refl (putMid_over at _ c.args.out.now c.args.field.now _ c.copy_from_slice.ensures.after e)

@@ -20,19 +20,19 @@ module _ (call : Call) (n k : ℕ) (counted : n ≡ counted_of (form_of call)) (
   whole : (ws : List ℕ) (last : ℕ) (r : Result (Unit {0}) RecordFault) → Put (two k ∷ []) ys to zs end (Ok tt) → Put (body_of call) zs end ws last r → Put (fields_of call) xs at ws last r
   whole ws last r second body = put_then (put_as (word counted) first) (put_then (put_as (word kind) second) body)
 
-pub returns-in-err-put-word-2 : goal.returns-in-err-put-word-2
-returns-in-err-put-word-2 c =
-    let p = err_from_is_err_and c.from-residual-in-err-put-word-2.result c.from-residual-in-err-put-word-2.ensures.1 in
+pub returns-in_err-put_word-2 : goal.returns-in_err-put_word-2
+returns-in_err-put_word-2 c =
+    let p = err_from_is_err_and c.from_residual-in_err-put_word-2.result c.from_residual-in_err-put_word-2.ensures.1 in
     rw (p.1, p.2)
     (stopped c.args.call.now c.counted.result c.kind.result
     (c.counted.ensures ∙ ap counted_of c.form-form.ensures) (c.kind.ensures ∙ ap kind_of c.form-form.ensures)
-    c.args.out.now c.put-word.new.out c.put-word-2.new.out c.args.place.now.at c.put-word.new.place.at c.put-word-2.new.place.at
-    c.in-ok-put-word.ensures _ c.in-err-put-word-2.ensures)
+    c.args.out.now c.put_word.new.out c.put_word-2.new.out c.args.place.now.at c.put_word.new.place.at c.put_word-2.new.place.at
+    c.in_ok-put_word.ensures _ c.in_err-put_word-2.ensures)
 
 pub returns : goal.returns
 returns c =
     whole c.args.call.now c.counted.result c.kind.result
     (c.counted.ensures ∙ ap counted_of c.form-form.ensures) (c.kind.ensures ∙ ap kind_of c.form-form.ensures)
-    c.args.out.now c.put-word.new.out c.put-word-2.new.out c.args.place.now.at c.put-word.new.place.at c.put-word-2.new.place.at
-    c.in-ok-put-word.ensures c.put-body.new.out c.put-body.new.place.at c.put-body.result
-    c.in-ok-put-word-2.ensures c.put-body.ensures
+    c.args.out.now c.put_word.new.out c.put_word-2.new.out c.args.place.now.at c.put_word.new.place.at c.put_word-2.new.place.at
+    c.in_ok-put_word.ensures c.put_body.new.out c.put_body.new.place.at c.put_body.result
+    c.in_ok-put_word-2.ensures c.put_body.ensures

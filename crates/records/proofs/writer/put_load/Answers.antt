@@ -3,4 +3,4 @@ use Rattle.records.proofs.Puts.{put_as, put_then}
 use Rattle.records.proofs.writer.put_load.Goals as goal
 
 pub returns : goal.returns
-returns c = put_then c.in-ok-put-word.ensures (put_as (ap (λ (f : List ℕ). f ∷ []) c.to-le-bytes.ensures) c.put.ensures)
+returns c = put_then c.in_ok-put_word.ensures (put_as (ap (λ (f : List ℕ). f ∷ []) c.to_le_bytes.ensures) c.put.ensures)

@@ -17,24 +17,24 @@ returns g c sound =
     let nodes = c.args.nodes.now in
     elim c.match-call.branch [
       | in-Load w ↦
-          step_as G meets w.in-Load.is (w.answer-is ∙ w.edit-said-answer.ensures) w.stations-is w.nodes-is
+          step_as G meets w.in-Load.is (w.answer-is ∙ w.edit_said-answer.ensures) w.stations-is w.nodes-is
           (step_edit G meets m ss nodes (loading w.in-Load.station w.in-Load.kg) w.load.result w.load.new.stations w.load.new.nodes w.load.ensures.any (Load w.in-Load.station w.in-Load.kg) refl sound)
       | in-Unload w ↦
-          step_as G meets w.in-Unload.is (w.answer-is ∙ w.edit-said-answer-in-Unload.ensures) w.stations-is w.nodes-is
+          step_as G meets w.in-Unload.is (w.answer-is ∙ w.edit_said-answer-in-Unload.ensures) w.stations-is w.nodes-is
           (step_edit G meets m ss nodes (unloading w.in-Unload.station w.in-Unload.kg) w.unload.result w.unload.new.stations w.unload.new.nodes w.unload.ensures.any (Unload w.in-Unload.station w.in-Unload.kg) refl sound)
       | in-Shift w ↦
-          step_as G meets w.in-Shift.is (w.answer-is ∙ w.edit-said-answer-in-Shift.ensures) w.stations-is w.nodes-is
+          step_as G meets w.in-Shift.is (w.answer-is ∙ w.edit_said-answer-in-Shift.ensures) w.stations-is w.nodes-is
           (step_edit G meets m ss nodes (shifting w.in-Shift.from w.in-Shift.to w.in-Shift.kg) w.shift.result w.shift.new.stations w.shift.new.nodes w.shift.ensures.any (Shift w.in-Shift.from w.in-Shift.to w.in-Shift.kg) refl sound)
       | in-Range w ↦
-          step_as G meets w.in-Range.is (w.answer-is ∙ w.range-said-answer.ensures) w.stations-is w.nodes-is
+          step_as G meets w.in-Range.is (w.answer-is ∙ w.range_said-answer.ensures) w.stations-is w.nodes-is
           (step_range G meets m planning ss nodes w.in-Range.from w.in-Range.to w.range.result w.range.ensures.any sound)
       | in-First w ↦
-          step_as G meets w.in-First.is (w.answer-is ∙ w.first-said-answer.ensures) w.stations-is w.nodes-is (w.first.ensures.step sound)
+          step_as G meets w.in-First.is (w.answer-is ∙ w.first_said-answer.ensures) w.stations-is w.nodes-is (w.first.ensures.step sound)
       | in-Judge w ↦
-          step_as G meets w.in-Judge.is (w.answer-is ∙ w.judge-said-answer.ensures) w.stations-is w.nodes-is
+          step_as G meets w.in-Judge.is (w.answer-is ∙ w.judge_said-answer.ensures) w.stations-is w.nodes-is
           (step_judge G m ss nodes w.in-Judge.limits meets planning w.judge.result w.judge.ensures.any sound)
       | in-Stages w ↦
-          step_as G meets w.in-Stages.is (w.answer-is ∙ w.stages-said-answer.ensures) w.stations-is w.nodes-is
+          step_as G meets w.in-Stages.is (w.answer-is ∙ w.stages_said-answer.ensures) w.stations-is w.nodes-is
           (step_stages G m ss nodes w.in-Stages.limits w.in-Stages.bytes meets w.stages.result w.stages.new.stations w.stages.new.nodes w.stages.ensures.records (w.stages.ensures.value sound) (w.stages.ensures.tree sound) sound)
       | in-Change w ↦ step_as G meets w.in-Change.is w.answer-is w.stations-is w.nodes-is (step_barred G meets m planning ss nodes _ refl sound)
       | in-Reopen w ↦ step_as G meets w.in-Reopen.is w.answer-is w.stations-is w.nodes-is (step_barred G meets m planning ss nodes Reopen refl sound)

@@ -27,8 +27,8 @@ returns g c sound =
     let at : length asks ≡ c.loop-i.i = omega (arith, c.loop-i-test.false, c.loop-i.auto.i-end) in
     rw at (run_all g.Of.Kind g.T.Test.meets (map call_of asks) c.loop-i.i (omega arith) (c.loop-i.invariant sound))
 
-pub offset-bounds-answers-i : goal.offset-bounds-answers-i
-offset-bounds-answers-i g c =
+pub offset_bounds-answers-i : goal.offset_bounds-answers-i
+offset_bounds-answers-i g c =
     let taken : c.loop-i.i < length c.args.asks.now = c.loop-i-test.true in
     let room : c.loop-i.i < length c.args.answers.now = omega (arith, c.requires) in
     search rules

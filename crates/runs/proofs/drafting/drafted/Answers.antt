@@ -14,7 +14,7 @@ returns-then-asks-answers g c =
 pub returns-in-Ok : goal.returns-in-Ok
 returns-in-Ok g c =
     drafted_ran g.Of.Kind (laws g) g.T.Test.meets c.args.basic c.args.stations.now c.args.nodes.now c.args.asks.now c.args.answers.now c.if-asks-answers.false
-    c.in-Ok.sheet c.«open».new.nodes c.ask-all.new.stations c.ask-all.new.nodes c.ask-all.new.answers c.in-Ok.ensures (c.ask-all.ensures (c.in-Ok.ensures.sound c.in-Ok.sheet refl).1)
+    c.in-Ok.sheet c.«open».new.nodes c.ask_all.new.stations c.ask_all.new.nodes c.ask_all.new.answers c.in-Ok.ensures (c.ask_all.ensures (c.in-Ok.ensures.sound c.in-Ok.sheet refl).1)
 
 pub returns-in-Err : goal.returns-in-Err
 returns-in-Err g c =

@@ -14,7 +14,7 @@ returns-then-calls-answers g c =
 pub returns-in-Ok : goal.returns-in-Ok
 returns-in-Ok g c =
     replayed_ran g.Of.Kind (laws g) g.T.Test.meets c.args.basic c.args.stations.now c.args.nodes.now c.args.calls.now c.args.answers.now c.if-calls-answers.false
-    c.in-Ok.sheet c.«open».new.nodes c.go-on.result c.go-on.new.stations c.go-on.new.nodes c.go-on.new.answers c.in-Ok.ensures (c.go-on.ensures (c.in-Ok.ensures.sound c.in-Ok.sheet refl).1)
+    c.in-Ok.sheet c.«open».new.nodes c.go_on.result c.go_on.new.stations c.go_on.new.nodes c.go_on.new.answers c.in-Ok.ensures (c.go_on.ensures (c.in-Ok.ensures.sound c.in-Ok.sheet refl).1)
 
 pub returns-in-Err : goal.returns-in-Err
 returns-in-Err g c =

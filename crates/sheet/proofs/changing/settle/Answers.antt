@@ -10,6 +10,6 @@ use Rattle.sheet.proofs.changing.settle.Goals as goal
 pub returns : goal.returns
 returns g c =
     let v = c.judge-code.result in
-    settled_by g.J.Kind c.args.numbers.now c.args.stations.now c.args.nodes.now c.args.limits.now c.args.size c.in-ok-used.used v _
-    c.in-ok-used.ensures c.judge-code.ensures
-    (sym (ap (λ (o : Option SheetFault). answer o c.in-ok-used.used) (went_on (broken_by Breaks v) tt tt c.in-ok-check-unbroken.ensures)))
+    settled_by g.J.Kind c.args.numbers.now c.args.stations.now c.args.nodes.now c.args.limits.now c.args.size c.in_ok-used.used v _
+    c.in_ok-used.ensures c.judge-code.ensures
+    (sym (ap (λ (o : Option SheetFault). answer o c.in_ok-used.used) (went_on (broken_by Breaks v) tt tt c.in_ok-check_unbroken.ensures)))

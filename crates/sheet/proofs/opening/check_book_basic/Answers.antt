@@ -9,4 +9,4 @@ use Rattle.sheet.proofs.opening.check_book_basic.Goals as goal
 
 pub returns : goal.returns
 returns c =
-    c.by-sheet.ensures ∙ ap (λ (o : Option BookFault). answer (option_map Book o) tt) (ap result_err c.check.ensures ∙ refused_by (basic_refusal c.args.basic.now) tt)
+    c.by_sheet.ensures ∙ ap (λ (o : Option BookFault). answer (option_map Book o) tt) (ap result_err c.check.ensures ∙ refused_by (basic_refusal c.args.basic.now) tt)

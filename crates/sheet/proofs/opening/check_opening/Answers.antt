@@ -7,13 +7,13 @@ use Rattle.edits.specs.Edits.{memory_refusal}
 use Rattle.sheet.proofs.Checks.{refuses_here, decides_next}
 use Rattle.sheet.proofs.opening.check_opening.Goals as goal
 
-pub returns-in-err-check-memory : goal.returns-in-err-check-memory
-returns-in-err-check-memory c =
+pub returns-in_err-check_memory : goal.returns-in_err-check_memory
+returns-in_err-check_memory c =
     let ss = c.args.stations.now in
     let last = option_or (option_map Book (station_refusal ss)) (option_map Book (basic_refusal c.args.basic.now)) in
     let memory = memory_refusal (length ss) (length ss) c.args.nodes in
-    let (f, is, from) = err_from_is_err_and c.from-residual-in-err-check-memory.result c.from-residual-in-err-check-memory.ensures.1 in
-    rw (is, from) (decides_next tt (option_map Book (count_refusal ss)) (option_or memory last) _ c.in-ok-check-book-count.ensures (refuses_here tt memory last _ c.in-err-check-memory.ensures))
+    let (f, is, from) = err_from_is_err_and c.from_residual-in_err-check_memory.result c.from_residual-in_err-check_memory.ensures.1 in
+    rw (is, from) (decides_next tt (option_map Book (count_refusal ss)) (option_or memory last) _ c.in_ok-check_book_count.ensures (refuses_here tt memory last _ c.in_err-check_memory.ensures))
 
 pub returns : goal.returns
 returns c =
@@ -21,6 +21,6 @@ returns c =
     let basic = option_map Book (basic_refusal c.args.basic.now) in
     let last = option_or (option_map Book (station_refusal ss)) basic in
     let memory = memory_refusal (length ss) (length ss) c.args.nodes in
-    decides_next tt (option_map Book (count_refusal ss)) (option_or memory last) _ c.in-ok-check-book-count.ensures
-    (decides_next tt memory last _ c.in-ok-check-memory.ensures
-    (decides_next tt (option_map Book (station_refusal ss)) basic _ c.in-ok-check-book-stations.ensures c.check-book-basic.ensures))
+    decides_next tt (option_map Book (count_refusal ss)) (option_or memory last) _ c.in_ok-check_book_count.ensures
+    (decides_next tt memory last _ c.in_ok-check_memory.ensures
+    (decides_next tt (option_map Book (station_refusal ss)) basic _ c.in_ok-check_book_stations.ensures c.check_book_basic.ensures))

@@ -10,7 +10,7 @@ returns-in-Err g c =
     let ss = c.args.stations.now in
     let nodes = c.args.nodes.now in
     let q = c.args.sheet in
-    let is = stopped (memory_refusal q.numbers.n (length ss) (length nodes)) tt c.in-Err.fault (sym c.in-Err.is ∙ c.check-memory.ensures) in
+    let is = stopped (memory_refusal q.numbers.n (length ss) (length nodes)) tt c.in-Err.fault (sym c.in-Err.is ∙ c.check_memory.ensures) in
     record {
       any = sym (ap (reopen_end g.K.Kind q) is);
       step = λ sound. absurd (some_none (sym is ∙ own_memory g.K.Kind q.numbers ss nodes sound));

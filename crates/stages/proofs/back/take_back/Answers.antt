@@ -9,10 +9,10 @@ loop-k-init g c = (λ d. refl, back_none g.K.Kind c.args.was.now c.args.stations
 pub loop-k-preserved : goal.loop-k-preserved
 loop-k-preserved g c =
     let k = c.loop-k.k in
-    let put = c.put-back.ensures in (
+    let put = c.put_back.ensures in (
       λ d. put.beside 0 d (not_above (length c.loop-k.nodes / 2 + k)) ∙ c.loop-k.invariant.0 d,
       λ alike.
-          back_more g.K.Kind c.args.was.now c.args.stations.now c.args.nodes.now k _ c.loop-k.stations c.loop-k.nodes c.put-back.new.stations c.put-back.new.nodes
+          back_more g.K.Kind c.args.was.now c.args.stations.now c.args.nodes.now k _ c.loop-k.stations c.loop-k.nodes c.put_back.new.stations c.put_back.new.nodes
           (c.loop-k.invariant.1 alike) refl put c.loop-k-test.true,
     )
 

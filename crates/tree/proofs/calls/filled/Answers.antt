@@ -10,18 +10,18 @@ use Rattle.tree.proofs.calls.filled.Goals as goal
 laws : (g : given.Over) → Laws g.K.Kind
 laws g = record { left = g.met.K.Kind.left; right = g.met.K.Kind.right; assoc = g.met.K.Kind.assoc }
 
-pub returns-in-err-check-memory : goal.returns-in-err-check-memory
-returns-in-err-check-memory g c =
-    let (e, is, from) = err_from_is_err_and c.from-residual.result c.from-residual.ensures.1 in
-    rw (is, from) (filled_refused g.K.Kind (laws g) c.args.nodes.now c.args.stations.now _ c.in-err-check-memory.ensures)
+pub returns-in_err-check_memory : goal.returns-in_err-check_memory
+returns-in_err-check_memory g c =
+    let (e, is, from) = err_from_is_err_and c.from_residual.result c.from_residual.ensures.1 in
+    rw (is, from) (filled_refused g.K.Kind (laws g) c.args.nodes.now c.args.stations.now _ c.in_err-check_memory.ensures)
 
 pub returns : goal.returns
 returns g c =
     let before = c.args.nodes.now in
-    let lent = c.write-leaves.new.leaves in
-    let after = c.join-inner.new.nodes in
+    let lent = c.write_leaves.new.leaves in
+    let after = c.join_inner.new.nodes in
     let long : length lent ≡ length before - length before / 2 = search (rules, places) in
     let same : length after ≡ length before = search (rules, places) in
     let mid : length (refilled g.K.Kind (laws g) before lent) ≡ length before = search (rules, places) in
-    filled_done g.K.Kind (laws g) before lent after c.args.stations.now c.in-ok-check-memory.ensures long mid same
-    c.write-leaves.ensures c.join-inner.ensures.first c.join-inner.ensures.whole
+    filled_done g.K.Kind (laws g) before lent after c.args.stations.now c.in_ok-check_memory.ensures long mid same
+    c.write_leaves.ensures c.join_inner.ensures.first c.join_inner.ensures.whole

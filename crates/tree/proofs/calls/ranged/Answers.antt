@@ -4,9 +4,9 @@ use Rattle.tree.proofs.Overs.{Laws}
 use Rattle.tree.proofs.calls.ranged.Goals as goal
 
 pub span-requires : goal.span-requires
-span-requires g c = range_room c.args.stations (length c.args.nodes.now) c.args.from c.args.to c.in-ok-check-range.ensures
+span-requires g c = range_room c.args.stations (length c.args.nodes.now) c.args.from c.args.to c.in_ok-check_range.ensures
 
 pub returns : goal.returns
 returns g c =
     let laws : Laws g.K.Kind = record { left = g.met.K.Kind.left; right = g.met.K.Kind.right; assoc = g.met.K.Kind.assoc } in
-    ranged_done g.K.Kind laws c.args.nodes.now c.args.stations c.args.from c.args.to c.span.result c.in-ok-check-range.ensures c.span.ensures
+    ranged_done g.K.Kind laws c.args.nodes.now c.args.stations c.args.from c.args.to c.span.result c.in_ok-check_range.ensures c.span.ensures

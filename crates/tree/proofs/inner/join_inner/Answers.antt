@@ -16,7 +16,7 @@ loop-i-preserved g c =
     let laws : Laws G = record { left = g.met.K.Kind.left; right = g.met.K.Kind.right; assoc = g.met.K.Kind.assoc } in
     let n = c.loop-i.nodes in
     let i = c.loop-i.i - 1 in
-    let v = c.children-joined.result in
+    let v = c.children_joined.result in
     let w = length c.args.nodes.now / 2 in
     let low : 1 < c.loop-i.i = c.loop-i-test.true in
     let long : 2 * w ≤ length n = omega (arith, c.loop-i.auto.nodes) in
@@ -24,7 +24,7 @@ loop-i-preserved g c =
     let ne : 0 ≢ i = λ e. omega arith in (
       λ d. get_or-set_other n i 0 v d ne ∙ c.loop-i.invariant.0 d,
       λ ss few leaves.
-          right_more G laws n w ss few long (λ (j : ℕ). c.loop-i.i ≤ j) (λ (j : ℕ). i ≤ j) i v high c.children-joined.ensures
+          right_more G laws n w ss few long (λ (j : ℕ). c.loop-i.i ≤ j) (λ (j : ℕ). i ≤ j) i v high c.children_joined.ensures
           (omega arith) (omega arith) (λ j other from. omega arith) (c.loop-i.invariant.1 ss few leaves),
     )
 

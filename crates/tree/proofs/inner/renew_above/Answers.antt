@@ -15,7 +15,7 @@ loop-i-preserved g c =
     let laws : Laws G = record { left = g.met.K.Kind.left; right = g.met.K.Kind.right; assoc = g.met.K.Kind.assoc } in
     let n = c.loop-i.nodes in
     let i = c.loop-i.i in
-    let v = c.children-joined.result in
+    let v = c.children_joined.result in
     let low : 0 < i = c.loop-i-test.true in
     let (room, up, same, right) = c.loop-i.invariant in
     let half = c.parent-i-in-loop-i.ensures in
@@ -27,7 +27,7 @@ loop-i-preserved g c =
           get_or-set_other n i j v d ne ∙ same j d out,
       λ w ss long few all.
           let long' : length n ≡ 2 * w = sym (length-set n i v) ∙ long in
-          right_more G laws n w ss few (omega arith) (λ (j : ℕ). Above j i → ⊥) (λ (j : ℕ). Above j c.parent-i-in-loop-i.result → ⊥) i v (omega arith) c.children-joined.ensures
+          right_more G laws n w ss few (omega arith) (λ (j : ℕ). Above j i → ⊥) (λ (j : ℕ). Above j c.parent-i-in-loop-i.result → ⊥) i v (omega arith) c.children_joined.ensures
           (λ a. omega (arith, above_le (2 * i) i a)) (λ a. omega (arith, above_le (2 * i + 1) i a))
           (λ j ne out a. ⊎_elim ne (λ (b : Above j (i / 2)). out (subst (λ (x : ℕ). Above j x) (sym half) b)) (above_cases j i a))
           (right w ss long' few all),
@@ -44,10 +44,10 @@ returns g c =
           right w ss (c.loop-i.auto.nodes ∙ long) few (λ h' j' p' d' pl' away. all h' j' p' d' pl' (λ a. away (subst (λ (x : ℕ). Above j' x) (sym from) a))) h j p d pl (out j);
     }
 
-pub children-joined-requires : goal.children-joined-requires
-children-joined-requires g c = c.loop-i.invariant.0
+pub children_joined-requires : goal.children_joined-requires
+children_joined-requires g c = c.loop-i.invariant.0
 
-pub offset-bounds-nodes-i : goal.offset-bounds-nodes-i
-offset-bounds-nodes-i g c =
+pub offset_bounds-nodes-i : goal.offset_bounds-nodes-i
+offset_bounds-nodes-i g c =
     let lt : c.loop-i.i < length c.args.nodes.now = omega (arith, c.loop-i.invariant.0, c.loop-i.auto.nodes) in
     search rules

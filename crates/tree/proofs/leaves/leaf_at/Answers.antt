@@ -10,9 +10,9 @@ returns-then-k-stations g c all few =
     let ss = c.args.stations.now in
     let k = c.args.k in
     let lt : k < _ = c.if-k-stations.true in
-    let (e, leaf) = c.station-leaf.ensures in
+    let (e, leaf) = c.station_leaf.ensures in
     let (reads, counts) = leaf (All-get_or Lawful ss k e lt all) (omega arith) in
-    over_one g.K.Kind laws c.station-leaf.result k e ss lt reads counts
+    over_one g.K.Kind laws c.station_leaf.result k e ss lt reads counts
 
 pub returns-else-k-stations : goal.returns-else-k-stations
 returns-else-k-stations g c all few =

@@ -56,14 +56,14 @@ loop-l-preserved g c =
           let (h, s) = c.loop-l.invariant.2 ss few whole in
           let s1 : Walk G w ss from to h l1 r0 c.if-l-eq1.fore c.loop-l.aft =
           elim c.if-l-eq1.branch [
-            | then-l-eq1 t ↦ rw (t.l-is, t.fore-is) (step_left G (laws g) nodes w ss few whole from to within h l0 r0 c.loop-l.fore c.loop-l.aft t.onto-fore-fore.result c.loop-l-test.true t.onto-fore-fore.ensures s)
+            | then-l-eq1 t ↦ rw (t.l-is, t.fore-is) (step_left G (laws g) nodes w ss few whole from to within h l0 r0 c.loop-l.fore c.loop-l.aft t.onto_fore-fore.result c.loop-l-test.true t.onto_fore-fore.ensures s)
             | else-l-eq1 t ↦ rw (t.l-is, t.fore-is) s
           ] in
           let s2 : Walk G w ss from to h l1 r1 c.if-l-eq1.fore c.if-r-eq1.aft =
           elim c.if-r-eq1.branch [
             | then-r-eq1 t ↦
                 let lt : l1 < r0 = omega (arith, t.if-r-eq1.true, even-l.0, even-l.1) in
-                rw (t.r-is, t.aft-is) (step_right G (laws g) nodes w ss few whole from to within h l1 r0 c.if-l-eq1.fore c.loop-l.aft t.onto-aft-aft.result lt t.onto-aft-aft.ensures s1)
+                rw (t.r-is, t.aft-is) (step_right G (laws g) nodes w ss few whole from to within h l1 r0 c.if-l-eq1.fore c.loop-l.aft t.onto_aft-aft.result lt t.onto_aft-aft.ensures s1)
             | else-r-eq1 t ↦ rw (t.r-is, t.aft-is) s1
           ] in
           (suc h, step_up G w ss from to h l1 r1 c.if-l-eq1.fore c.if-r-eq1.aft even-l.0 even-r.0 s2),

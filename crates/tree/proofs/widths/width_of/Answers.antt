@@ -5,7 +5,7 @@ use Rattle.tree.proofs.widths.width_of.Goals as goal
 
 pub returns : goal.returns
 returns c =
-    let p = c.next-power-of-two.ensures in
-    let e : c.next-power-of-two.result ≡ width c.args.stations =
-    width_is c.args.stations c.next-power-of-two.result p.power.0 c.requires p.power.1 p.lower-bound p.upper-bound in
+    let p = c.next_power_of_two.ensures in
+    let e : c.next_power_of_two.result ≡ width c.args.stations =
+    width_is c.args.stations c.next_power_of_two.result p.power.0 c.requires p.power.1 p.lower-bound p.upper_bound in
     (e, subst (λ (w : ℕ). w ≤ 256) (sym e) (width_few c.args.stations c.requires))
