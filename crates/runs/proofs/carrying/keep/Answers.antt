@@ -9,7 +9,7 @@ use Rattle.runs.proofs.carrying.keep.Goals.{in-Load, in-Unload, in-Shift, in-Ran
 
 pub returns : goal.returns
 returns g c sound =
-    let G = g.Of.Kind in
+    let G = g.T.Of.Kind in
     let meets = g.T.Test.meets in
     let m = c.args.sheet.numbers in
     let ss = c.args.stations.now in

@@ -7,7 +7,7 @@ use Rattle.runs.proofs.Histories.{run_none, run_more, run_all}
 use Rattle.runs.proofs.drafting.ask_all.Goals as goal
 
 pub loop-i-init : goal.loop-i-init
-loop-i-init g c sound = run_none g.Of.Kind g.T.Test.meets c.args.sheet.now.numbers planning c.args.stations.now c.args.nodes.now sound
+loop-i-init g c sound = run_none g.T.Of.Kind g.T.Test.meets c.args.sheet.now.numbers planning c.args.stations.now c.args.nodes.now sound
 
 pub loop-i-preserved : goal.loop-i-preserved
 loop-i-preserved g c sound =
@@ -17,7 +17,7 @@ loop-i-preserved g c sound =
     let long : length (map call_of asks) ≡ length asks = length-map asks call_of in
     let room : c.loop-i.i < length c.loop-i.answers = omega (arith, c.loop-i.auto.answers, c.requires) in
     let here : call_of c.index-asks-i.result ≡ _ = ap call_of c.index-asks-i.is ∙ sym (get_or-map call_of asks c.loop-i.i c.index-asks-i.result (call_of c.index-asks-i.result) taken) in
-    run_more g.Of.Kind g.T.Test.meets (map call_of asks) c.loop-i.answers c.loop-i.i (call_of c.index-asks-i.result) here (omega arith) room old (c.ask.ensures old.sound)
+    run_more g.T.Of.Kind g.T.Test.meets (map call_of asks) c.loop-i.answers c.loop-i.i (call_of c.index-asks-i.result) here (omega arith) room old (c.ask.ensures old.sound)
 
 pub returns : goal.returns
 returns g c sound =
@@ -25,7 +25,7 @@ returns g c sound =
     let long : length (map call_of asks) ≡ length asks = length-map asks call_of in
     let left : length asks ≤ c.loop-i.i = c.loop-i-test.false in
     let at : length asks ≡ c.loop-i.i = omega (arith, c.loop-i-test.false, c.loop-i.auto.i-end) in
-    rw at (run_all g.Of.Kind g.T.Test.meets (map call_of asks) c.loop-i.i (omega arith) (c.loop-i.invariant sound))
+    rw at (run_all g.T.Of.Kind g.T.Test.meets (map call_of asks) c.loop-i.i (omega arith) (c.loop-i.invariant sound))
 
 pub offset_bounds-answers-i : goal.offset_bounds-answers-i
 offset_bounds-answers-i g c =

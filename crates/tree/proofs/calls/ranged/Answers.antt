@@ -4,7 +4,9 @@ use Rattle.tree.proofs.Overs.{Laws}
 use Rattle.tree.proofs.calls.ranged.Goals as goal
 
 pub span-requires : goal.span-requires
-span-requires g c = range_room c.args.stations (length c.args.nodes.now) c.args.from c.args.to c.in_ok-check_range.ensures
+span-requires g c =
+    let room = range_room c.args.stations (length c.args.nodes.now) c.args.from c.args.to c.in_ok-check_range.ensures in
+    record { from_le_to = room.0; to_in_bounds = room.1 }
 
 pub returns : goal.returns
 returns g c =

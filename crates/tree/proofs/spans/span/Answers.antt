@@ -39,7 +39,7 @@ loop-l-preserved g c =
     let r0 = c.loop-l.r in
     let l1 = c.if-l-eq1.l in
     let r1 = c.if-r-eq1.r in
-    let within : to ≤ w = c.requires.1 in
+    let within : to ≤ w = c.requires.to_in_bounds in
     let even-l : (l1 % 2 ≡ 0) × (l1 ≤ r0) =
     elim c.if-l-eq1.branch [
       | then-l-eq1 t ↦ (omega (arith, t.l-is, t.if-l-eq1.true), omega (arith, t.l-is))

@@ -7,5 +7,5 @@ pub returns : goal.returns
 returns c =
     let p = c.next_power_of_two.ensures in
     let e : c.next_power_of_two.result ≡ width c.args.stations =
-    width_is c.args.stations c.next_power_of_two.result p.power.0 c.requires p.power.1 p.lower-bound p.upper_bound in
-    (e, subst (λ (w : ℕ). w ≤ 256) (sym e) (width_few c.args.stations c.requires))
+    width_is c.args.stations c.next_power_of_two.result p.power.0 c.requires p.power.1 p.lower_bound p.upper_bound in
+    record { value = e; upper_bound = subst (λ (w : ℕ). w ≤ 256) (sym e) (width_few c.args.stations c.requires) }
