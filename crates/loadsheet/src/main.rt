@@ -28,6 +28,7 @@ use judgement::Kept;
 use kinds::{House, house_from};
 use refusal::Refusal;
 use std::io::{BufRead, BufReader};
+use std::process::ExitCode;
 use std::{env, fs, io};
 use summary_text::Summary;
 
@@ -123,10 +124,12 @@ fn run(rt: &HostRuntime) -> Result<(), Failure> {
     Ok(())
 }
 
-fn main(rt: HostRuntime) -> Result<(), Failure> {
-    let done = run(&rt);
-    if let Err(failure) = &done {
-        let _ = rt.eprintln(failure);
+fn main(rt: HostRuntime) -> ExitCode {
+    match run(&rt) {
+        Ok(()) => ExitCode::SUCCESS,
+        Err(failure) => {
+            let _ = rt.eprintln(failure);
+            ExitCode::FAILURE
+        }
     }
-    done
 }

@@ -37,6 +37,7 @@ use kinds::{ForeBroken, House, house_from};
 use lists::Lists;
 use nodes::nodes_of;
 use refusal::Refusal;
+use std::process::ExitCode;
 use std::{env, fs, io};
 use summary_text::Summary;
 use tree::{fill, first, range};
@@ -133,10 +134,12 @@ fn run(rt: &HostRuntime) -> Result<(), Failure> {
     Ok(())
 }
 
-fn main(rt: HostRuntime) -> Result<(), Failure> {
-    let done = run(&rt);
-    if let Err(failure) = &done {
-        let _ = rt.eprintln(failure);
+fn main(rt: HostRuntime) -> ExitCode {
+    match run(&rt) {
+        Ok(()) => ExitCode::SUCCESS,
+        Err(failure) => {
+            let _ = rt.eprintln(failure);
+            ExitCode::FAILURE
+        }
     }
-    done
 }
