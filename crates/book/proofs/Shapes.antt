@@ -1,5 +1,5 @@
 -- What the tests of a polygon mean.
-use Rattle.std.proofs.Common.{◌≡◌, ℕ, ◌<◌, ◌≤◌, Bool, true, false, ◌&&◌, eqb, leb, List, length, ℤ, pos, ◌≤ℤ◌, ◌<ℤ◌, is_some, Some, None, Err, Decides, Option, Result, sym, refl, ap, ◌∙◌, subst, arith, MatchResult}
+use Rattle.std.proofs.Common.{◌≡◌, ℕ, ◌<◌, Bool, true, false, ◌&&◌, eqb, leb, List, length, ℤ, pos, ◌≤ℤ◌, ◌<ℤ◌, is_some, Some, None, Err, Decides, Option, Result, sym, refl, ap, ◌∙◌, subst, arith, MatchResult}
 use lib.Signed.{lt_z, le_z}
 use Rattle.std.proofs.lemmas.Int.{ints}
 use Rattle.std.proofs.lemmas.Bool.{and_parts, and_from, leb-true, le-leb, eqb-true, eqb-false, cond-true, cond-false}

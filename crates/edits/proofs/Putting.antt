@@ -1,5 +1,5 @@
 -- A mass that is put at a station, and the nodes after it.
-use Rattle.std.proofs.Common.{◌≡◌, ℕ, ◌<◌, ◌≤◌, true, ltb, List, length, set, Some, None, Result, sym, refl, ap, ◌∙◌, subst}
+use Rattle.std.proofs.Common.{◌≡◌, ℕ, ◌<◌, ◌≤◌, true, List, length, None, Result, sym, refl, ◌∙◌, subst}
 use Rattle.std.proofs.ByRecursion.{All-get_or}
 use Rattle.std.proofs.lemmas.List.{length-set, get_or-set_same, set_past}
 use Rattle.std.proofs.lemmas.Bool.{lt-ltb}

@@ -1,5 +1,5 @@
 -- Mass and moment.
-use Rattle.std.specs.Prelude.{ℕ, ◌*◌, ℤ, pos, ◌+ℤ◌, ◌*ℤ◌, neg_ℤ, ◌≤ℤ◌}
+use Rattle.std.specs.Prelude.{ℕ, ◌*◌, pos, ◌+ℤ◌, ◌*ℤ◌, neg_ℤ, ◌≤ℤ◌}
 use Rattle.std.specs.Int.{saturate_to_bits}
 use Rattle.book.specs.declared.station.Station.{Station}
 use Rattle.kinds.specs.declared.mass_moment.MassMoment.{MassMoment}

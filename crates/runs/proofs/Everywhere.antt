@@ -1,5 +1,5 @@
 -- What holds of every tally and every call: which nodes can change their reading, and when releases and changes are accepted.
-use Rattle.std.proofs.Common.{◌≡◌, ℕ, ◌+◌, ◌*◌, ◌/◌, ◌^◌, ◌<◌, ◌≤◌, Bool, true, false, eqb, List, [], ◌∷◌, length, get_or, take, drop, ℤ, nat_abs, Some, None, Option, sym, refl, ap, ◌∙◌, subst, ⊎_elim, true≢false, arith}
+use Rattle.std.proofs.Common.{◌≡◌, ℕ, ◌+◌, ◌/◌, ◌^◌, ◌<◌, ◌≤◌, Bool, true, false, eqb, List, [], length, get_or, take, drop, Some, None, Option, sym, refl, ap, ◌∙◌, subst, ⊎_elim, true≢false, arith}
 use Rattle.std.proofs.lemmas.Bool.{cases_lt, eqb-true}
 use Rattle.std.specs.Option.{option_or}
 use Rattle.std.specs.List.{AllByRecursion as All}
@@ -8,7 +8,7 @@ use Rattle.book.specs.declared.limits.Limits.{Limits}
 use Rattle.book.specs.Envelopes.{polygon}
 use Rattle.kinds.specs.declared.kind.Kind.{Ghosts}
 use Rattle.kinds.specs.Folds.{read_at}
-use Rattle.tree.specs.Trees.{Place, Above, part, SegmentTree}
+use Rattle.tree.specs.Trees.{Place, Above, SegmentTree}
 use Rattle.tree.specs.Widths.{width}
 use Rattle.tree.proofs.Overs.{Laws, places_kept}
 use Rattle.tree.proofs.Places.{place_of, above_under}
@@ -29,10 +29,9 @@ use Rattle.sheet.specs.declared.answer.Answer.TheVariants.{Done, Refused, Summar
 use Rattle.sheet.specs.declared.call.Call.{Call}
 use Rattle.sheet.specs.declared.call.Call.TheVariants.{Load, Unload, Shift, Range, Judge, Stages, Release, Change, Reopen}
 use Rattle.sheet.specs.declared.call.Call.TheVariants as calls
-use Rattle.sheet.specs.declared.correction.Correction.{Correction}
 use Rattle.sheet.specs.declared.numbers.Numbers.{Numbers}
 use Rattle.runs.specs.Law.{named, KeptBy, EveryStep}
-use Rattle.sheet.specs.Tally.{State, planning, released, Tally, changing, unless, ended, ending_by, range_refusal, refusal_by, verdict_by, broken_by, release_refusal, change_refusal, answer, answer_in, done, left, step}
+use Rattle.sheet.specs.Tally.{State, planning, released, Tally, changing, unless, ended, ending_by, range_refusal, refusal_by, verdict_by, broken_by, release_refusal, change_refusal, answer, answer_in, done, left}
 use Rattle.sheet.proofs.Changes.{all_passed, none_refuses}
 use Rattle.sheet.proofs.Corrections.{named_one}
 use Rattle.sheet.proofs.Stepping.{length_edited}

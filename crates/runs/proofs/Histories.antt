@@ -1,5 +1,5 @@
 -- A run of calls, one call longer.
-use Rattle.std.proofs.Common.{◌≡◌, ℕ, ◌+◌, ◌<◌, ◌≤◌, Bool, List, [], ◌∷◌, ◌++◌, map, length, get_or, take, set, sym, refl, ap, ◌∙◌, subst}
+use Rattle.std.proofs.Common.{◌≡◌, ℕ, ◌+◌, ◌<◌, ◌≤◌, Bool, List, [], ◌∷◌, ◌++◌, length, get_or, take, set, sym, refl, ap, ◌∙◌}
 use Rattle.std.proofs.lemmas.List.{take_more, take_more_set, take_all, map_push}
 use Rattle.book.specs.declared.station.Station.{Station}
 use Rattle.kinds.specs.declared.kind.Kind.{Ghosts}

@@ -1,8 +1,7 @@
 -- A whole replay: refused, or opened and run.
-use Rattle.std.proofs.Common.{◌≡◌, ℕ, ◌<◌, ◌≤◌, Bool, true, cond, leb, List, map, length, take, is_some, is_err, Some, None, Ok, Err, Option, Result, sym, refl, ap, ◌∙◌, subst, true≢false}
+use Rattle.std.proofs.Common.{◌≡◌, ◌<◌, ◌≤◌, Bool, leb, List, length, take, is_err, Some, Ok, Err, sym, refl, ap, ◌∙◌, subst, true≢false}
 use Rattle.std.proofs.lemmas.Bool.{cond-true, cond-false, le-leb, lt-leb}
 use Rattle.std.specs.Option.{option_map}
-use Rattle.std.specs.Result.{result_err}
 use Rattle.book.specs.declared.basic.Basic.{Basic}
 use Rattle.book.specs.declared.station.Station.{Station}
 use Rattle.kinds.specs.declared.kind.Kind.{Ghosts}
@@ -16,10 +15,9 @@ use Rattle.sheet.specs.declared.call.Call.{Call}
 use Rattle.sheet.specs.declared.numbers.Numbers.{Numbers}
 use Rattle.sheet.specs.declared.states.Planning.{Planning}
 use Rattle.sheet.specs.declared.states.Sheet.{Sheet}
-use Rattle.runs.specs.declared.unrun.Unrun.{Unrun}
 use Rattle.runs.specs.declared.unrun.Unrun.TheVariants.{NoRoom, Refused}
 use Rattle.runs.specs.Law.{Ran, RunFrom, run_refusal, Replayed}
-use Rattle.sheet.specs.Memory.{numbers_of, state_of, tally, said}
+use Rattle.sheet.specs.Memory.{numbers_of, state_of, tally}
 use Rattle.sheet.specs.Opening.{opening_refusal, Opened}
 use Rattle.sheet.specs.Tally.{Tally, planning, opened, answers, steps}
 use Rattle.runs.proofs.Everywhere.{every_step}

@@ -1,7 +1,6 @@
 -- A whole run of calls that need no judging: refused, or opened and run.
-use Rattle.std.proofs.Common.{◌≡◌, ℕ, ◌<◌, ◌≤◌, Bool, true, List, map, length, take, is_some, is_err, Ok, Err, Result, sym, refl, ap, ◌∙◌, subst, true≢false}
+use Rattle.std.proofs.Common.{◌≡◌, ℕ, ◌<◌, ◌≤◌, Bool, List, map, length, take, is_err, Ok, Err, sym, refl, ap, ◌∙◌, subst, true≢false}
 use lib.ListN.{length-map}
-use Rattle.std.specs.Result.{result_err}
 use Rattle.book.specs.declared.basic.Basic.{Basic}
 use Rattle.book.specs.declared.station.Station.{Station}
 use Rattle.kinds.specs.declared.kind.Kind.{Ghosts}
@@ -10,7 +9,6 @@ use Rattle.tree.proofs.Refusing.{ok_same}
 use Rattle.edits.specs.declared.fault.SheetFault.{SheetFault}
 use Rattle.sheet.specs.declared.answer.Answer.{Answer}
 use Rattle.sheet.specs.declared.states.Planning.{Planning}
-use Rattle.sheet.specs.declared.states.Sheet.{Sheet}
 use Rattle.sheet.specs.declared.states.Sheet.TheVariants.{InPlanning}
 use Rattle.sheet.specs.Opening.{opening_refusal, Opened}
 use Rattle.sheet.specs.Tally.{planning}

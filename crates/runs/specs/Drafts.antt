@@ -1,5 +1,5 @@
 -- Calls that need no judging, and what a run of them on a sheet of any kind answers and leaves.
-use Rattle.std.specs.Prelude.{◌≡◌, ℕ, Bool, true, List, map, length, is_some, Ok, Result}
+use Rattle.std.specs.Prelude.{◌≡◌, Bool, true, List, map, length, is_some, Ok, Result}
 use Rattle.std.specs.Result.{result_err}
 use Rattle.book.specs.declared.basic.Basic.{Basic}
 use Rattle.book.specs.declared.station.Station.{Station}

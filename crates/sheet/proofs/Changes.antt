@@ -1,5 +1,5 @@
 -- A change as a step of the tally, and when it is accepted.
-use Rattle.std.proofs.Common.{◌≡◌, ℕ, ◌+◌, ◌≤◌, Bool, true, cond, eqb, leb, List, length, ℤ, nat_abs, is_err, Some, None, Ok, Err, Option, Result, sym, refl, ap, ◌∙◌, subst, true≢false, arith}
+use Rattle.std.proofs.Common.{◌≡◌, ℕ, ◌+◌, ◌≤◌, Bool, cond, eqb, leb, List, length, ℤ, nat_abs, is_err, Some, None, Ok, Err, Option, Result, sym, refl, ap, ◌∙◌, subst, true≢false}
 use Rattle.std.proofs.lemmas.Bool.{leb-true, le-leb, eqb-true, cond-true}
 use Rattle.std.specs.Option.{option_or}
 use Rattle.std.specs.Result.{result_err}
@@ -19,10 +19,10 @@ use Rattle.sheet.specs.declared.answer.Answer.TheVariants.{Done, Refused}
 use Rattle.sheet.specs.declared.call.Call.TheVariants.{Change}
 use Rattle.sheet.specs.declared.numbers.Numbers.{Numbers}
 use Rattle.sheet.specs.Memory.{tally, Sound, Step, no_test, edit_answer}
-use Rattle.sheet.specs.Tally.{planning, released, changing, unless, refusal_by, verdict_by, broken_by, change_refusal, answer, left}
+use Rattle.sheet.specs.Tally.{released, changing, unless, refusal_by, verdict_by, broken_by, change_refusal, answer, left}
 use Rattle.sheet.specs.Weighing.{bad_limits, AllLimitsKept, Corrected, spending, told, Changed}
 use Rattle.sheet.proofs.Corrections.{past_limits, past_edit}
-use Rattle.sheet.proofs.Stepping.{length_edited, asked}
+use Rattle.sheet.proofs.Stepping.{length_edited}
 
 module _ {K R : Type 0} (G : Ghosts K R) (m : Numbers) (ss : List Station) (nodes : List K) (l : Limits) (k : ℕ) (kg : ℤ) (ss' : List Station) (nodes' : List K) where
   abbrev allowance_refusal : Option SheetFault

@@ -1,7 +1,6 @@
 -- Checks one after the other: the first that refuses gives the refusal.
-use Rattle.std.proofs.Common.{◌≡◌, Some, None, Ok, Err, Option, Result, sym, refl, ap, ◌∙◌, subst}
+use Rattle.std.proofs.Common.{◌≡◌, Ok, Err, Option, Result, sym, ap, ◌∙◌}
 use Rattle.std.specs.Option.{option_or}
-use Rattle.std.specs.Result.{result_err}
 use Rattle.book.specs.Refusals.{answer}
 use Rattle.edits.proofs.Carries.{went_on, stopped}
 

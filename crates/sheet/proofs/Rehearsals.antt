@@ -5,7 +5,6 @@ use Rattle.book.specs.declared.limits.Limits.{Limits}
 use Rattle.book.specs.Envelopes.{polygon}
 use Rattle.book.specs.Refusals.{limits_refusal}
 use Rattle.kinds.specs.declared.kind.Kind.{Ghosts}
-use Rattle.kinds.specs.Folds.{AllLawful}
 use Rattle.tree.specs.Trees.{SegmentTree}
 use Rattle.edits.specs.declared.fault.SheetFault.{SheetFault}
 use Rattle.edits.specs.declared.fault.SheetFault.TheVariants.{Book}
@@ -15,8 +14,6 @@ use Rattle.stages.specs.declared.ending.Ending.TheVariants.{AllKept, Broken, Ref
 use Rattle.stages.specs.Staged.{Staged}
 use Rattle.stages.specs.Staging.{ending}
 use Rattle.sheet.specs.declared.answer.Answer.{Answer}
-use Rattle.sheet.specs.declared.answer.Answer.TheVariants.{StageRefused}
-use Rattle.sheet.specs.declared.call.Call.{Call}
 use Rattle.sheet.specs.declared.call.Call.TheVariants.{Stages}
 use Rattle.sheet.specs.declared.numbers.Numbers.{Numbers}
 use Rattle.sheet.specs.Memory.{tally, Sound, said, Step, no_test}

@@ -1,5 +1,5 @@
 -- Each call on the sheet's own memory is a step of the tally.
-use Rattle.std.proofs.Common.{◌≡◌, ℕ, zero, suc, ◌+◌, ◌-◌, ◌<◌, ◌≤◌, Bool, true, false, cond, ◌&&◌, eqb, ◌≢◌, List, length, set, is_some, Some, None, Ok, Err, Option, Result, unwrap_or, sym, refl, ap, ◌∙◌, subst, ⊎_elim, true≢false, arith}
+use Rattle.std.proofs.Common.{◌≡◌, ℕ, zero, suc, ◌+◌, ◌-◌, ◌<◌, ◌≤◌, Bool, true, false, ◌&&◌, eqb, ◌≢◌, List, length, Some, None, Ok, Err, Option, Result, unwrap_or, sym, refl, ap, ◌∙◌, subst, ⊎_elim, arith}
 use Rattle.std.proofs.lemmas.List.{length-set}
 use Rattle.std.proofs.lemmas.Bool.{eq-eqb, and_from, cond-true, cases_eq}
 use Rattle.std.specs.Option.{option_or}
@@ -7,7 +7,7 @@ use Rattle.std.specs.Result.{result_err}
 use Rattle.book.specs.declared.station.Station.{Station}
 use Rattle.kinds.specs.declared.kind.Kind.{Ghosts}
 use Rattle.tree.specs.Calls.{FirstMet}
-use Rattle.tree.specs.Trees.{part, SegmentTree}
+use Rattle.tree.specs.Trees.{part}
 use Rattle.tree.specs.Widths.{fits}
 use Rattle.edits.specs.declared.edit.Edit.{Edit}
 use Rattle.edits.specs.declared.fault.SheetFault.{SheetFault}
@@ -21,14 +21,10 @@ use Rattle.sheet.specs.declared.call.Call.{Call}
 use Rattle.sheet.specs.declared.call.Call.TheVariants.{Load, Unload, Shift, Range, Reopen}
 use Rattle.sheet.specs.declared.call.Call.TheVariants as calls
 use Rattle.sheet.specs.declared.numbers.Numbers.{Numbers}
-use Rattle.sheet.specs.declared.states.Planning.{Planning}
-use Rattle.sheet.specs.declared.states.Released.{Released}
-use Rattle.sheet.specs.declared.states.Sheet.{Sheet}
-use Rattle.sheet.specs.declared.states.Sheet.TheVariants.{InPlanning, InRelease}
 use Rattle.sheet.specs.Asking.{Ranged, Found}
 use Rattle.sheet.specs.Calls.{edit_of}
-use Rattle.sheet.specs.Memory.{numbers_of, state_of, tally, Sound, said, Step, edit_answer, range_answer, first_answer}
-use Rattle.sheet.specs.Tally.{Tally, State, planning, released, carrying, unless, range_refusal, first_of, first_met, answer, done, left, step}
+use Rattle.sheet.specs.Memory.{tally, Sound, said, Step, edit_answer, range_answer, first_answer}
+use Rattle.sheet.specs.Tally.{State, planning, released, unless, range_refusal, first_of, first_met, answer, done, left}
 
 -- the sheet's own memory is not refused
 pub own_memory : {K R : Type 0} (G : Ghosts K R) (m : Numbers) (ss : List Station) (nodes : List K) → Sound G m ss nodes → memory_refusal m.n (length ss) (length nodes) ≡ None

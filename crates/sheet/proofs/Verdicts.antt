@@ -1,7 +1,7 @@
 -- Verdicts on the sheet's own memory, and the calls that turn on them as steps of the tally.
-use Rattle.std.proofs.Common.{◌≡◌, ℕ, Bool, true, false, cond, eqb, List, length, is_err, Some, None, Ok, Err, Option, Result, sym, refl, ap, ◌∙◌, subst, true≢false, arith}
+use Rattle.std.proofs.Common.{◌≡◌, ℕ, Bool, eqb, List, length, is_err, Some, None, Ok, Err, Option, Result, sym, refl, ap, ◌∙◌, subst, true≢false, arith}
 use Rattle.std.proofs.lemmas.Bool.{eqb-true}
-use Rattle.std.specs.Option.{option_or, option_map}
+use Rattle.std.specs.Option.{option_or}
 use Rattle.std.specs.Result.{result_err}
 use Rattle.book.specs.declared.station.Station.{Station}
 use Rattle.book.specs.Refusals as answers
@@ -11,7 +11,6 @@ use Rattle.book.specs.Refusals.{limits_refusal}
 use Rattle.kinds.specs.declared.kind.Kind.{Ghosts}
 use Rattle.tree.proofs.Refusing.{ok_same}
 use Rattle.judging.specs.declared.occasion.Occasion.TheVariants.{Standing}
-use Rattle.judging.specs.Judgement.{judgement}
 use Rattle.judging.specs.Judges.{Judges}
 use Rattle.judging.proofs.Keeping.{code_0_is_kept}
 use Rattle.edits.specs.declared.fault.SheetFault.{SheetFault}
@@ -20,12 +19,11 @@ use Rattle.edits.specs.Edits.{memory_refusal}
 use Rattle.edits.proofs.Carries.{rest_none, refused_by, some_none, test_held}
 use Rattle.sheet.specs.declared.answer.Answer.{Answer}
 use Rattle.sheet.specs.declared.answer.Answer.TheVariants.{Done, Refused, Verdict}
-use Rattle.sheet.specs.declared.call.Call.{Call}
 use Rattle.sheet.specs.declared.call.Call.TheVariants.{Judge, Release}
 use Rattle.sheet.specs.declared.numbers.Numbers.{Numbers}
 use Rattle.sheet.specs.declared.states.Planning.{Planning}
 use Rattle.sheet.specs.declared.states.Released.{Released}
-use Rattle.sheet.specs.Memory.{tally, Sound, said, Step, no_test, judge_answer}
+use Rattle.sheet.specs.Memory.{tally, Sound, Step, no_test, judge_answer}
 use Rattle.sheet.specs.Tally.{State, planning, released, unless, refusal_by, verdict_by, broken_by, release_refusal, answer, left}
 use Rattle.sheet.specs.Weighing.{bad_limits, brought_refusal, AllLimitsKept, Valued, Weighed, freed, release_end, release_answer, release_numbers, release_state, Freed}
 use Rattle.sheet.proofs.Openings.{none_from_mapped}

@@ -1,6 +1,5 @@
 -- What each call that needs no judging answers and leaves: on any memory, and as a step of the tally on the sheet's own.
 use Rattle.std.specs.Prelude.{◌≡◌, ℕ, Bool, List, length, Some, None, Ok, Err, Option, Result}
-use Rattle.std.specs.Result.{result_err}
 use Rattle.book.specs.declared.station.Station.{Station}
 use Rattle.kinds.specs.declared.kind.Kind.{Ghosts}
 use Rattle.edits.specs.declared.edit.Edit.{Edit}

@@ -1,5 +1,5 @@
 -- The tally: what a sheet stands for, what each call answers and what it leaves. It is fed opening's records and the calls' arguments alone.
-use Rattle.std.specs.Prelude.{ℕ, zero, suc, ◌+◌, ◌-◌, Bool, true, false, cond, ◌&&◌, List, [], ◌∷◌, length, ℤ, pos, Some, None, Option, ◌==◌, int_le, nat_le, nat_lt, unsigned_abs}
+use Rattle.std.specs.Prelude.{ℕ, zero, suc, ◌+◌, ◌-◌, Bool, cond, ◌&&◌, List, [], ◌∷◌, length, ℤ, pos, Some, None, Option, ◌==◌, int_le, nat_le, nat_lt, unsigned_abs}
 use Rattle.std.specs.Option.{option_or, option_map}
 use Rattle.book.specs.declared.basic.Basic.{Basic}
 use Rattle.book.specs.declared.station.Station.{Station}
@@ -8,7 +8,6 @@ use Rattle.book.specs.Envelopes.{polygon}
 use Rattle.book.specs.Refusals.{limits_refusal}
 use Rattle.kinds.specs.declared.kind.Kind.{Ghosts}
 use Rattle.tree.specs.Trees.{part}
-use Rattle.judging.specs.declared.occasion.Occasion.{Occasion}
 use Rattle.judging.specs.declared.occasion.Occasion.TheVariants.{Standing}
 use Rattle.judging.specs.Judgement.{judgement}
 use Rattle.edits.specs.declared.edit.Edit.{Edit}

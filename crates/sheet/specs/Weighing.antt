@@ -16,12 +16,11 @@ use Rattle.edits.specs.declared.fault.SheetFault.TheVariants.{Book, OverAllowanc
 use Rattle.edits.specs.Edits.{edited, edit_refusal, memory_refusal}
 use Rattle.sheet.specs.declared.answer.Answer.{Answer}
 use Rattle.sheet.specs.declared.answer.Answer.TheVariants.{Done, Refused}
-use Rattle.sheet.specs.declared.call.Call.{Call}
 use Rattle.sheet.specs.declared.call.Call.TheVariants.{Judge, Release, Change}
 use Rattle.sheet.specs.declared.numbers.Numbers.{Numbers}
 use Rattle.sheet.specs.declared.states.Planning.{Planning}
 use Rattle.sheet.specs.declared.states.Released.{Released}
-use Rattle.sheet.specs.Tally.{State, planning, released, changing, verdict_by, broken_by, release_refusal, change_refusal}
+use Rattle.sheet.specs.Tally.{State, planning, released, changing, broken_by, release_refusal, change_refusal}
 use Rattle.sheet.specs.Memory.{Sound, Step, no_test, tally, judge_answer, edit_answer}
 
 -- limits that are brought keep their own rules on a deck of n stations

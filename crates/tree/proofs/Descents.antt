@@ -1,7 +1,6 @@
 -- The way down of a search for the first station that meets a test, from node 1 to a leaf.
-use Rattle.std.proofs.Common.{◌≡◌, ℕ, zero, suc, ◌+◌, ◌-◌, ◌*◌, ◌^◌, ◌<◌, ◌≤◌, Bool, true, false, List, length, get_or, take, drop, Some, None, sym, refl, ap, ◌∙◌, subst, ⊎_elim, mul_comm, zero-add, arith}
+use Rattle.std.proofs.Common.{◌≡◌, ℕ, zero, suc, ◌+◌, ◌-◌, ◌*◌, ◌^◌, ◌<◌, ◌≤◌, Bool, true, false, List, length, get_or, take, drop, Some, None, sym, ap, ◌∙◌, subst, ⊎_elim, zero-add, arith}
 use native.Mathlib.Nat.{pow-succ'}
-use Rattle.std.proofs.lemmas.Nat.{mul-le, pow_pos}
 use Rattle.std.proofs.ByRecursion.{All-take, All-drop}
 use Rattle.std.proofs.lemmas.Bool.{cases_Bool, cases_lt, both_ways}
 use Rattle.book.specs.declared.station.Station.{Station}
@@ -10,7 +9,7 @@ use Rattle.kinds.specs.declared.kind.Kind.{Ghosts}
 use Rattle.kinds.specs.Folds.{read_at, AllLawful}
 use Rattle.tree.specs.Calls.{FirstMet}
 use Rattle.tree.specs.Trees.{Place, among, part}
-use Rattle.tree.specs.Under.{Over, Joins, JoinsNode, Whole}
+use Rattle.tree.specs.Under.{Over, JoinsNode, Whole}
 use Rattle.tree.proofs.Overs.{Laws, over_join, over_none, part_add, part_past, among_le}
 use Rattle.tree.proofs.Places.{at_inner, at_leaf, fore_child, aft_child}
 

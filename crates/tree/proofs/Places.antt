@@ -1,5 +1,5 @@
 -- Where the nodes of a tree lie: heights, first leaves, children, and which nodes are above a leaf.
-use Rattle.std.proofs.Common.{◌≡◌, ℕ, zero, suc, ◌+◌, ◌-◌, ◌*◌, ◌/◌, ◌^◌, ◌<◌, ◌≤◌, ◌⊎◌, sym, refl, ap, ◌∙◌, subst, inl, inr, ⊎_elim, mul_assoc, mul_comm, add-mul, zero-mul, arith}
+use Rattle.std.proofs.Common.{◌≡◌, ℕ, zero, suc, ◌+◌, ◌-◌, ◌*◌, ◌/◌, ◌^◌, ◌<◌, ◌≤◌, ◌⊎◌, sym, refl, ap, ◌∙◌, inl, inr, ⊎_elim, mul_assoc, mul_comm, add-mul, zero-mul, arith}
 use native.Mathlib.Nat.{zero-div, pow-succ', div-div-eq-div-mul}
 use Rattle.std.proofs.lemmas.Nat.{mul-le, pow_pos, shr_le, div-mul-add}
 use Rattle.std.proofs.lemmas.Bool.{cases_lt}

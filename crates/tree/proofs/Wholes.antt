@@ -1,11 +1,11 @@
 -- A segment tree's nodes are over the stations under them, and nodes that are so make a segment tree.
-use Rattle.std.proofs.Common.{◌≡◌, ℕ, zero, suc, ◌+◌, ◌*◌, ◌/◌, ◌^◌, ◌<◌, ◌≤◌, true, eqb, leb, List, length, get_or, pos, None, sym, refl, ap, ◌∙◌, subst, ap₂, ⊎_elim, arith}
+use Rattle.std.proofs.Common.{◌≡◌, ℕ, zero, suc, ◌+◌, ◌*◌, ◌/◌, ◌^◌, ◌<◌, ◌≤◌, true, eqb, leb, List, length, get_or, pos, None, sym, ap, ◌∙◌, subst, ap₂, ⊎_elim, arith}
 use native.Mathlib.Nat.{pow-succ'}
 use Rattle.std.proofs.lemmas.Bool.{cases_lt, and_parts, leb-true, eqb-true}
 use Rattle.book.specs.declared.station.Station.{Station}
 use Rattle.kinds.specs.declared.kind.Kind.{Ghosts}
 use Rattle.tree.specs.Trees.{Place, part, SegmentTree, TreesRead}
-use Rattle.tree.specs.Under.{Over, Whole}
+use Rattle.tree.specs.Under.{Whole}
 use Rattle.tree.specs.Widths.{width, deck, fits}
 use Rattle.tree.proofs.Places.{at_inner, fore_child, aft_child, place_low, inner_low, leaf_place, place_of}
 use Rattle.tree.proofs.Overs.{Laws, part_past, part_one, part_add}

@@ -1,4 +1,4 @@
-use Rattle.std.proofs.Common.{◌≡◌, length, Option, ap, ◌∙◌}
+use Rattle.std.proofs.Common.{length, Option, ap, ◌∙◌}
 use Rattle.std.proofs.lemmas.Result.{err_from_is_err_and}
 use Rattle.std.specs.Option.{option_or}
 use Rattle.edits.specs.declared.fault.SheetFault.{SheetFault}

@@ -1,4 +1,4 @@
-use Rattle.std.proofs.Common.{◌≡◌, sym, ap}
+use Rattle.std.proofs.Common.{sym, ap}
 use Rattle.std.proofs.lemmas.List.{get_or_past}
 use Rattle.book.specs.declared.station.Station.{Station}
 use Rattle.edits.specs.Edits.{nowhere}

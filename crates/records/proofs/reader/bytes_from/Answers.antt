@@ -1,4 +1,4 @@
-use Rattle.std.proofs.Common.{◌-◌, ◌^◌, ◌<◌, length, ap, ◌∙◌, arith, length-drop, rules}
+use Rattle.std.proofs.Common.{◌^◌, ◌<◌, length, ap, ◌∙◌, arith, length-drop, rules}
 use Rattle.records.proofs.Exacts.{from_start}
 use Rattle.records.proofs.reader.bytes_from.Goals as goal
 

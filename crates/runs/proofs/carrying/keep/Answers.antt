@@ -1,5 +1,4 @@
-use Rattle.std.proofs.Common.{◌≡◌, sym, refl, ap, ◌∙◌, subst}
-use Rattle.sheet.specs.declared.call.Call.TheVariants.{Change, Reopen}
+use Rattle.std.proofs.Common.{refl, ◌∙◌}
 use Rattle.sheet.specs.Tally.{released}
 use Rattle.sheet.proofs.Changes.{step_change_told}
 use Rattle.sheet.proofs.Stepping.{step_as, step_range, step_barred}

@@ -1,10 +1,10 @@
-use Rattle.std.proofs.Common.{◌≡◌, Ok, Err, sym, refl, ap, ◌∙◌, subst}
+use Rattle.std.proofs.Common.{refl, ◌∙◌}
 use Rattle.edits.specs.Edits.{loading, unloading, shifting}
-use Rattle.sheet.specs.declared.call.Call.TheVariants.{Load, Unload, Shift, Change, Reopen}
+use Rattle.sheet.specs.declared.call.Call.TheVariants.{Load, Unload, Shift, Reopen}
 use Rattle.sheet.specs.Tally.{planning}
 use Rattle.sheet.proofs.Rehearsals.{step_stages}
-use Rattle.sheet.proofs.Stepping.{step_as, step_edit, step_range, step_first, step_barred}
-use Rattle.sheet.proofs.Verdicts.{step_judge, step_release}
+use Rattle.sheet.proofs.Stepping.{step_as, step_edit, step_range, step_barred}
+use Rattle.sheet.proofs.Verdicts.{step_judge}
 use Rattle.runs.proofs.carrying.plan.Goals as goal
 use Rattle.runs.proofs.carrying.plan.Goals.{in-Load, in-Unload, in-Shift, in-Range, in-First, in-Judge, in-Stages, in-Change, in-Reopen}
 

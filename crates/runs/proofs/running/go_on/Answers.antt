@@ -1,4 +1,4 @@
-use Rattle.std.proofs.Common.{◌≡◌, ℕ, ◌<◌, length, take, sym, arith, rules}
+use Rattle.std.proofs.Common.{◌≡◌, ◌<◌, length, arith, rules}
 use Rattle.sheet.specs.Memory.{numbers_of, state_of}
 use Rattle.runs.proofs.Histories.{run_none, run_more, run_all}
 use Rattle.runs.proofs.running.go_on.Goals as goal

@@ -1,9 +1,7 @@
-use Rattle.std.proofs.Common.{◌≡◌, ℕ, true, false, length, Ok, Err, sym, ap, ◌∙◌, subst, rules}
+use Rattle.std.proofs.Common.{◌≡◌, length, sym, ◌∙◌, rules}
 use Rattle.std.proofs.lemmas.Result.{err_from_is_err_and}
-use Rattle.edits.specs.declared.edit.Edit.{Edit}
-use Rattle.edits.specs.Carrying.{Put, Carried}
 use Rattle.edits.proofs.Carries.{went_on, stopped}
-use Rattle.sheet.specs.Weighing.{brought_refusal, Settled}
+use Rattle.sheet.specs.Weighing.{brought_refusal}
 use Rattle.sheet.proofs.Corrections.{corrected_unbrought, corrected_unedited, corrected_stands, corrected_back, carried_as, settled_as, put_as}
 use Rattle.sheet.proofs.changing.corrected.Goals as goal
 

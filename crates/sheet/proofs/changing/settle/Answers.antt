@@ -1,4 +1,4 @@
-use Rattle.std.proofs.Common.{◌≡◌, Option, sym, ap, ◌∙◌}
+use Rattle.std.proofs.Common.{Option, sym, ap}
 use Rattle.edits.specs.declared.fault.SheetFault.{SheetFault}
 use Rattle.edits.specs.declared.fault.SheetFault.TheVariants.{Breaks}
 use Rattle.book.specs.Refusals.{answer}

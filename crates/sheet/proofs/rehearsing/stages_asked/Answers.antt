@@ -1,4 +1,4 @@
-use Rattle.std.proofs.Common.{length, sym, ◌∙◌}
+use Rattle.std.proofs.Common.{length}
 use Rattle.edits.proofs.Carries.{went_on, stopped}
 use Rattle.sheet.specs.Weighing.{brought_refusal}
 use Rattle.sheet.proofs.Rehearsals.{rehearsed, rehearsed_refused}

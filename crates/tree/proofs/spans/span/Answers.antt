@@ -1,4 +1,4 @@
-use Rattle.std.proofs.Common.{◌≡◌, ℕ, suc, ◌/◌, ◌%◌, ◌<◌, ◌≤◌, length, arith}
+use Rattle.std.proofs.Common.{◌≡◌, suc, ◌/◌, ◌%◌, ◌<◌, ◌≤◌, length, arith}
 use Rattle.tree.proofs.Overs.{Laws, over_none}
 use Rattle.tree.proofs.Walks.{Walk, step_left, step_right, step_up, walk_ends}
 use Rattle.tree.proofs.spans.span.Given as given

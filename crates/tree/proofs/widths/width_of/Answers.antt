@@ -1,4 +1,4 @@
-use Rattle.std.proofs.Common.{◌≡◌, ℕ, ◌≤◌, sym, subst, arith}
+use Rattle.std.proofs.Common.{◌≡◌, ℕ, ◌≤◌, sym, subst}
 use Rattle.tree.specs.Widths.{width}
 use Rattle.tree.proofs.Widening.{width_is, width_few}
 use Rattle.tree.proofs.widths.width_of.Goals as goal
