@@ -5,7 +5,7 @@ use Rattle.std.proofs.ByRecursion.{All-weaker}
 use Rattle.std.proofs.lemmas.Int.{ints}
 use Rattle.std.proofs.lemmas.Bool.{leb-true, le-leb}
 use Rattle.std.specs.Option.{option_or}
-use Rattle.std.specs.List.{AllByRecursion as All}
+use Rattle.std.specs.List.{AllByRecursion}
 use Rattle.book.specs.declared.basic.Basic.{Basic}
 use Rattle.book.specs.declared.station.Station.{Station}
 use Rattle.book.specs.declared.totals.Totals.{Totals}
@@ -49,11 +49,11 @@ at_most a b h = grind (arith, ints)
 most_at : (a b : ℤ) → a ≤ℤ b → le_z a b ≡ true
 most_at a b h = grind (arith, ints)
 
-floors_borne : (front ss : List Station) → All (Passes floor_kept) (spots_from front ss) → All Borne ss
+floors_borne : (front ss : List Station) → AllByRecursion (Passes floor_kept) (spots_from front ss) → AllByRecursion Borne ss
 floors_borne front [] all = tt
 floors_borne front (s ∷ ss) (h, all) = (leb-true _ _ h, floors_borne (front ++ (s ∷ [])) ss all)
 
-borne_floors : (front ss : List Station) → All Borne ss → All (Passes floor_kept) (spots_from front ss)
+borne_floors : (front ss : List Station) → AllByRecursion Borne ss → AllByRecursion (Passes floor_kept) (spots_from front ss)
 borne_floors front [] all = tt
 borne_floors front (s ∷ ss) (h, all) = (le-leb _ _ h, borne_floors (front ++ (s ∷ [])) ss all)
 

@@ -3,7 +3,7 @@ use Rattle.std.proofs.Common.{◌≡◌, ℕ, zero, suc, ◌+◌, ◌<◌, Bool,
 use Rattle.std.proofs.lemmas.List.{drop_more}
 use Rattle.std.proofs.lemmas.Bool.{cond-true, cond-false}
 use Rattle.std.specs.Option.{option_or}
-use Rattle.std.specs.List.{AllByRecursion as All}
+use Rattle.std.specs.List.{AllByRecursion}
 use Rattle.book.specs.Refusals.{first_failing}
 use Rattle.judging.specs.Spots.{last_failing}
 
@@ -20,25 +20,25 @@ module _ {X : Type 0} (test : X → Bool) where
   abbrev pub Passes : X → Type 0
   Passes x = test x ≡ true
 
-  pub first_all : (n : ℕ) (xs : List X) → first_failing test n xs ≡ None → All Passes xs
+  pub first_all : (n : ℕ) (xs : List X) → first_failing test n xs ≡ None → AllByRecursion Passes xs
   first_all n [] e = tt
   first_all n (x ∷ xs) e = by (test x) refl e (first_all (suc n) xs)
     where
-      by : (b : Bool) → test x ≡ b → cond b (first_failing test (suc n) xs) (Some n) ≡ None → (first_failing test (suc n) xs ≡ None → All Passes xs) → All Passes (x ∷ xs)
+      by : (b : Bool) → test x ≡ b → cond b (first_failing test (suc n) xs) (Some n) ≡ None → (first_failing test (suc n) xs ≡ None → AllByRecursion Passes xs) → AllByRecursion Passes (x ∷ xs)
       by true h e rest = (h, rest e)
       by false h e rest = let z : ◌≡◌ {A = ℕ} 0 1 = cc in absurd (omega arith)
 
-  pub all_first : (n : ℕ) (xs : List X) → All Passes xs → first_failing test n xs ≡ None
+  pub all_first : (n : ℕ) (xs : List X) → AllByRecursion Passes xs → first_failing test n xs ≡ None
   all_first n [] h = refl
   all_first n (x ∷ xs) (h, rest) = cond-true (test x) _ _ h ∙ all_first (suc n) xs rest
 
-  pub last_all : (n : ℕ) (xs : List X) → last_failing test n xs ≡ None → All Passes xs
+  pub last_all : (n : ℕ) (xs : List X) → last_failing test n xs ≡ None → AllByRecursion Passes xs
   last_all n [] e = tt
   last_all n (x ∷ xs) e =
       let p = neither (last_failing test (suc n) xs) (cond (test x) None (Some n)) e in
       (passed (test x) n p.1, last_all (suc n) xs p.0)
 
-  pub all_last : (n : ℕ) (xs : List X) → All Passes xs → last_failing test n xs ≡ None
+  pub all_last : (n : ℕ) (xs : List X) → AllByRecursion Passes xs → last_failing test n xs ≡ None
   all_last n [] h = refl
   all_last n (x ∷ xs) (h, rest) = ap (λ (o : Option ℕ). option_or o (cond (test x) None (Some n))) (all_last (suc n) xs rest) ∙ cond-true (test x) _ _ h
 

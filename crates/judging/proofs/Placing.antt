@@ -1,7 +1,7 @@
 -- The spots of a deck, one by one, and the masses before and aft of each.
 use Rattle.std.proofs.Common.{◌≡◌, ℕ, zero, suc, ◌+◌, ◌*◌, ◌<◌, ◌≤◌, List, [], ◌∷◌, ◌++◌, length, get_or, take, drop, sym, refl, ap, ◌∙◌, subst, arith}
 use Rattle.std.proofs.lemmas.List.{append-nil, append_assoc}
-use Rattle.std.specs.List.{AllByRecursion as All}
+use Rattle.std.specs.List.{AllByRecursion}
 use Rattle.book.specs.declared.station.Station.{Station}
 use Rattle.book.specs.Sums.{mass_of}
 use Rattle.kinds.specs.Folds.{AllLawful}
@@ -21,7 +21,7 @@ spot_at front (s ∷ ss) (suc i) d e l =
     spot_at (front ++ (s ∷ [])) ss i d e (omega arith) ∙ ap (λ (f : List Station). spot f (get_or ss i e) (drop (suc i) ss)) (append_assoc front (s ∷ []) (take i ss))
 
 -- what holds at each spot holds at each way to part the deck, and the other way
-pub at_parting : (P : Spot → Type 0) (front ss : List Station) → All P (spots_from front ss) → (f : List Station) (s : Station) (b : List Station) → ss ≡ f ++ (s ∷ b) → P (spot (front ++ f) s b)
+pub at_parting : (P : Spot → Type 0) (front ss : List Station) → AllByRecursion P (spots_from front ss) → (f : List Station) (s : Station) (b : List Station) → ss ≡ f ++ (s ∷ b) → P (spot (front ++ f) s b)
 at_parting P front [] all [] s b e = let z : ◌≡◌ {A = ℕ} 0 1 = cc in absurd (omega arith)
 at_parting P front [] all (x ∷ f) s b e = let z : ◌≡◌ {A = ℕ} 0 1 = cc in absurd (omega arith)
 at_parting P front (t ∷ ss) (here, all) [] s b e =
@@ -33,7 +33,7 @@ at_parting P front (t ∷ ss) (here, all) (x ∷ f) s b e =
     let p : spot ((front ++ (t ∷ [])) ++ f) s b ≡ spot (front ++ (x ∷ f)) s b = let n = append_assoc front (t ∷ []) f in cc in
     subst P p (at_parting P (front ++ (t ∷ [])) ss all f s b r)
 
-pub from_partings : (P : Spot → Type 0) (front ss : List Station) → ((f : List Station) (s : Station) (b : List Station) → ss ≡ f ++ (s ∷ b) → P (spot (front ++ f) s b)) → All P (spots_from front ss)
+pub from_partings : (P : Spot → Type 0) (front ss : List Station) → ((f : List Station) (s : Station) (b : List Station) → ss ≡ f ++ (s ∷ b) → P (spot (front ++ f) s b)) → AllByRecursion P (spots_from front ss)
 from_partings P front [] each = tt
 from_partings P front (t ∷ ss) each = (
   subst (λ (f : List Station). P (spot f t ss)) (append-nil front) (each [] t ss refl),

@@ -1,6 +1,6 @@
 -- That every limit is kept, limit by limit, and when the judgement says so.
 use Rattle.std.specs.Prelude.{◌≡◌, ◌≤◌, List, ◌∷◌, ◌++◌, pos, ◌≤ℤ◌}
-use Rattle.std.specs.List.{AllByRecursion as All}
+use Rattle.std.specs.List.{AllByRecursion}
 use Rattle.book.specs.declared.basic.Basic.{Basic}
 use Rattle.book.specs.declared.station.Station.{Station}
 use Rattle.book.specs.declared.totals.Totals.{Totals}
@@ -21,11 +21,11 @@ Closes Standing b t vs = Within vs (point t)
 Closes Stage b t vs = TipKept b t
 
 pub record Keeps (o : Occasion) (b : Basic) (ss : List Station) (zs : List Zone) (fs : List Frame) (vs : List Vertex) : Type 0 where
-  pub floors : All Borne ss
+  pub floors : AllByRecursion Borne ss
   pub fores : (front : List Station) (s : Station) (back : List Station) → ss ≡ front ++ (s ∷ back) → Above (pos 0) (fore_margin front s back)
   pub afts : (front : List Station) (s : Station) (back : List Station) → ss ≡ front ++ (s ∷ back) → Above (pos 0) (aft_margin front s back)
-  pub zones : All (λ z. mass_of (zone_stations z ss) ≤ z.limit) zs
-  pub frames : All (λ f. bending f ss ≤ℤ pos f.limit) fs
+  pub zones : AllByRecursion (λ z. mass_of (zone_stations z ss) ≤ z.limit) zs
+  pub frames : AllByRecursion (λ f. bending f ss ≤ℤ pos f.limit) fs
   pub closes : Closes o b (totals_of b ss) vs
 
 -- the code is 0 exactly when every limit is kept

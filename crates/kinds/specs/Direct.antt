@@ -1,6 +1,6 @@
 -- What a summary of stations means, said of the stations themselves: sums, least margins, the first station over its floor.
 use Rattle.std.specs.Prelude.{◌≡◌, ℕ, ◌+◌, ◌-◌, ◌<◌, ◌≤◌, List, ◌∷◌, ◌++◌, length, ℤ, pos, ◌≤ℤ◌, Some, None, Option}
-use Rattle.std.specs.List.{AllByRecursion as All}
+use Rattle.std.specs.List.{AllByRecursion}
 use Rattle.book.specs.declared.station.Station.{Station}
 use Rattle.book.specs.Sums.{mass_of, moment_of}
 use Rattle.kinds.specs.declared.floor_record.Over.{Over}
@@ -32,9 +32,9 @@ Borne s = s.mass ≤ s.floor
 
 -- o is the first station over its floor limit, counted from n, with its excess: absent where every floor bears its load
 abbrev pub IsFirstOver : ℕ → List Station → Option Over → Type 0
-IsFirstOver n ss None = All Borne ss
+IsFirstOver n ss None = AllByRecursion Borne ss
 IsFirstOver n ss (Some o) =
-    (front : List Station) × (s : Station) × (back : List Station) × (ss ≡ front ++ (s ∷ back)) × All Borne front × (s.floor < s.mass)
+    (front : List Station) × (s : Station) × (back : List Station) × (ss ≡ front ++ (s ∷ back)) × AllByRecursion Borne front × (s.floor < s.mass)
     × (o.station ≡ n + length front) × (o.excess ≡ s.mass - s.floor)
 
 -- h is the summary of the stations, numbered from n on

@@ -1,6 +1,6 @@
 -- What stations read as when they are joined nose to tail.
 use Rattle.std.specs.Prelude.{ℕ, suc, List, [], ◌∷◌}
-use Rattle.std.specs.List.{AllByRecursion as All}
+use Rattle.std.specs.List.{AllByRecursion}
 use Rattle.book.specs.declared.station.Station.{Station}
 use Rattle.book.specs.Fields.{Lawful}
 
@@ -10,4 +10,4 @@ read_at none single joined n [] = none
 read_at none single joined n (s ∷ ss) = joined (single n s) (read_at none single joined (suc n) ss)
 
 abbrev pub AllLawful : List Station → Type 0
-AllLawful ss = All Lawful ss
+AllLawful ss = AllByRecursion Lawful ss

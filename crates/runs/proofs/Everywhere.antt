@@ -2,7 +2,7 @@
 use Rattle.std.proofs.Common.{◌≡◌, ℕ, ◌+◌, ◌/◌, ◌^◌, ◌<◌, ◌≤◌, Bool, true, false, eqb, List, [], length, get_or, take, drop, Some, None, Option, sym, refl, ap, ◌∙◌, subst, ⊎_elim, true≢false, arith}
 use Rattle.std.proofs.lemmas.Bool.{cases_lt, eqb-true}
 use Rattle.std.specs.Option.{option_or}
-use Rattle.std.specs.List.{AllByRecursion as All}
+use Rattle.std.specs.List.{AllByRecursion}
 use Rattle.book.specs.declared.station.Station.{Station}
 use Rattle.book.specs.declared.limits.Limits.{Limits}
 use Rattle.book.specs.Envelopes.{polygon}
@@ -122,7 +122,7 @@ module _ {K R T : Type 0} (G : Ghosts K R) (laws : Laws G) (meets : T → R → 
     same_after : (c : Call T) (a : Answer R) → left G meets a t c ≡ t → ReadsAlike (left G meets a t c).stations
     same_after c a is = subst (λ (x : Tally). ReadsAlike x.stations) (sym is) alike
 
-    beside_in : (state : State) (c : Call T) → All (λ k. Above i (length one / 2 + k) → ⊥) (named c) → ReadsAlike (left G meets (answer_in G meets state t c) t c).stations
+    beside_in : (state : State) (c : Call T) → AllByRecursion (λ k. Above i (length one / 2 + k) → ⊥) (named c) → ReadsAlike (left G meets (answer_in G meets state t c) t c).stations
     beside_in planning (Load k kg) out = after ReadsAlike t (Load k kg) (edit_refusal t.stations (loading k kg)) alike (by_edit (loading k kg) (λ a. a) out.0)
     beside_in planning (Unload k kg) out = after ReadsAlike t (Unload k kg) (edit_refusal t.stations (unloading k kg)) alike (by_edit (unloading k kg) out.0 (λ a. a))
     beside_in planning (Shift from to kg) out = after ReadsAlike t (Shift from to kg) (edit_refusal t.stations (shifting from to kg)) alike (by_edit (shifting from to kg) out.0 out.1.0)

@@ -2,7 +2,7 @@
 use Rattle.std.specs.Prelude.{◌≡◌, ℕ, ◌+◌, ◌/◌, ◌<◌, ◌≤◌, Bool, true, cond, List, [], ◌∷◌, map, length, take, is_some, Some, None, Ok, Option, Result, nat_le, slice_index_or, unsigned_abs}
 use Rattle.std.specs.Option.{option_map}
 use Rattle.std.specs.Result.{result_err}
-use Rattle.std.specs.List.{AllByRecursion as All}
+use Rattle.std.specs.List.{AllByRecursion}
 use Rattle.book.specs.declared.basic.Basic.{Basic}
 use Rattle.book.specs.declared.station.Station.{Station}
 use Rattle.book.specs.declared.limits.Limits.{Limits}
@@ -48,7 +48,7 @@ module _ {K R T : Type 0} (G : Ghosts K R) (meets : T → R → Bool) where
   pub record EveryStep : Type 0 where
     -- no call alters the reading of a node but those above a station that it names
     pub beside : (t : Tally) (c : Call T) (one other : List K) → SegmentTree G one t.stations → SegmentTree G other (step G meets t c).stations →
-        (i : ℕ) (d : K) → 0 < i → i < length one → All (λ k. Above i (length one / 2 + k) → ⊥) (named c) → G.reading (slice_index_or one i d) ≡ G.reading (slice_index_or other i d)
+        (i : ℕ) (d : K) → 0 < i → i < length one → AllByRecursion (λ k. Above i (length one / 2 + k) → ⊥) (named c) → G.reading (slice_index_or one i d) ≡ G.reading (slice_index_or other i d)
     -- a release that only a broken limit could stop is accepted exactly where every limit is kept
     pub released_exactly : (t : Tally) (l : Limits) → t.state ≡ planning → refusal_by l t ≡ None →
         (answer G meets t (Release l) ≡ Done → KeptBy l t t.stations) × (KeptBy l t t.stations → answer G meets t (Release l) ≡ Done)
