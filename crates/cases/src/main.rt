@@ -4,6 +4,7 @@
 
 mod polygons;
 mod records_read;
+mod refusal;
 
 use std::io;
 

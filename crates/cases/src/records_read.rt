@@ -1,19 +1,38 @@
 // Bytes that are or are not a record.
-use records::{Call, RecordFault, Writer, read};
+use crate::refusal::Refusal;
+use records::{Call, Writer, read};
 use std::io;
+
+const LOAD: [u8; 12] = [8, 0, 1, 0, 1, 0, 250, 0, 0, 0, 0xaa, 0xbb];
+
+// Bytes with a name, and where in them a record is read.
+const READS: [(&str, &[u8], usize); 11] = [
+    ("load and two bytes more", &LOAD, 0),
+    ("those two bytes", &LOAD, 10),
+    ("past the end", &LOAD, 13),
+    ("three bytes", &[8, 0, 1], 0),
+    ("one byte short", &[8, 0, 1, 0, 1, 0, 250, 0, 0], 0),
+    ("short and unknown", &[8, 0, 9, 0], 0),
+    ("kind 0", &[2, 0, 0, 0], 0),
+    ("kind 5", &[2, 0, 5, 0], 0),
+    ("length 0", &[0, 0, 1, 0], 0),
+    (
+        "load with a shift's length",
+        &[10, 0, 1, 0, 1, 0, 2, 0, 250, 0, 0, 0],
+        0,
+    ),
+    (
+        "shift with a load's length",
+        &[8, 0, 3, 0, 1, 0, 2, 0, 250, 0, 0, 0],
+        0,
+    ),
+];
 
 fn print_read(rt: &HostRuntime, name: &str, bytes: &[u8], at: usize) -> io::Result<()> {
     match read(bytes, at) {
         Ok((_, next)) => println!(rt; "{name}: a call, the next begins at {next}"),
-        Err(fault) => print_fault(rt, name, fault),
+        Err(fault) => println!(rt; "{name}: {}", Refusal(fault.into())),
     }
-}
-
-fn print_fault(rt: &HostRuntime, name: &str, fault: RecordFault) -> io::Result<()> {
-    let number = fault.number();
-    let layer = fault.layer();
-    let place = fault.place();
-    println!(rt; "{name}: refused {number} layer {layer} place {place}")
 }
 
 fn print_bytes(rt: &HostRuntime, bytes: &[u8]) -> io::Result<()> {
@@ -31,39 +50,19 @@ fn print_room(rt: &HostRuntime) -> io::Result<()> {
         kg: 250,
     };
     let mut writer = Writer::new(&mut memory);
-    let first = writer.write(&call);
+    let first = writer.write(&call).is_ok();
     let second = writer.write(&call);
     let written = writer.written();
-    let first = first.is_ok();
     println!(rt; "first written: {first}, bytes of finished records: {written}")?;
     if let Err(fault) = second {
-        print_fault(rt, "second", fault)?;
+        println!(rt; "second: {}", Refusal(fault.into()))?;
     }
     print_bytes(rt, &memory)
 }
 
 pub(crate) fn run(rt: &HostRuntime) -> io::Result<()> {
-    let load: [u8; 12] = [8, 0, 1, 0, 1, 0, 250, 0, 0, 0, 0xaa, 0xbb];
-    print_read(rt, "load and two bytes more", &load, 0)?;
-    print_read(rt, "those two bytes", &load, 10)?;
-    print_read(rt, "past the end", &load, 13)?;
-    print_read(rt, "three bytes", &[8, 0, 1], 0)?;
-    print_read(rt, "one byte short", &[8, 0, 1, 0, 1, 0, 250, 0, 0], 0)?;
-    print_read(rt, "short and unknown", &[8, 0, 9, 0], 0)?;
-    print_read(rt, "kind 0", &[2, 0, 0, 0], 0)?;
-    print_read(rt, "kind 5", &[2, 0, 5, 0], 0)?;
-    print_read(rt, "length 0", &[0, 0, 1, 0], 0)?;
-    print_read(
-        rt,
-        "load with a shift's length",
-        &[10, 0, 1, 0, 1, 0, 2, 0, 250, 0, 0, 0],
-        0,
-    )?;
-    print_read(
-        rt,
-        "shift with a load's length",
-        &[8, 0, 3, 0, 1, 0, 2, 0, 250, 0, 0, 0],
-        0,
-    )?;
+    for (name, bytes, at) in READS {
+        print_read(rt, name, bytes, at)?;
+    }
     print_room(rt)
 }

@@ -1,31 +1,31 @@
 -- What the reader answers is exactly what a writer wrote.
-use Rattle.std.proofs.Common.{◌≡◌, ℕ, ◌+◌, ◌-◌, ◌^◌, ◌<◌, ◌≤◌, min, Bool, true, false, eqb, ltb, List, [], ◌∷◌, ◌++◌, length, get_or, take, drop, Some, None, Ok, Err, Option, Result, sym, refl, ap, ◌∙◌, subst, arith, length-append, w32, SFits, to_z, of_z}
+use Rattle.std.proofs.Common.{◌≡◌, ℕ, ◌+◌, ◌-◌, ◌^◌, ◌<◌, ◌≤◌, List, [], ◌++◌, length, take, drop, Some, None, Ok, Option, Result, sym, refl, ap, ◌∙◌, subst, arith, w32, SFits, to_z, of_z}
 use mir.ValLaws.{of_z_fits}
-use Rattle.std.proofs.lemmas.List.{get_or-drop, take_rest, drop_all}
+use Rattle.std.proofs.Math.Seq.{take-add}
+use Rattle.std.proofs.lemmas.List.{append-nil, drop-drop, take-append-drop}
+use Rattle.std.proofs.lemmas.Nat.{from_le_bytes-to_le_bytes_2, from_le_bytes-to_le_bytes_4}
 use Rattle.std.proofs.lemmas.Int.{ints, to_z-of_z, of_z-to_z}
 use Rattle.std.proofs.lemmas.Bool.Decides.{nat_tests}
-use Rattle.std.proofs.lemmas.Bool.{le-ltb, lt-ltb, ltb-true, ltb-false, eqb-true, cond-true, cond-false}
 use Rattle.records.specs.declared.call.Call.{Call}
 use Rattle.records.specs.declared.call.Call.TheVariants.{Load, Unload, Shift, Change}
 use Rattle.records.specs.declared.fault.RecordFault.{RecordFault}
-use Rattle.records.specs.declared.fault.RecordFault.TheVariants.{Short, UnknownKind, WrongLength}
 use Rattle.records.specs.declared.form.Form.{Form}
 use Rattle.records.specs.declared.form.Form.TheVariants as forms
 use Rattle.records.specs.Forms.{form_of_kind, kind_of, counted_of}
 use Rattle.records.specs.Records.{form_of, Fits, two, four, body_of, together, encode}
-use Rattle.records.specs.Reading.{word, dword, call_in, of_form, of_header, record_in, Stands, Exactly}
+use Rattle.records.specs.Reading.{word, dword, call_in, of_form, record_in, Stands, Exactly}
 use Rattle.records.specs.Writing.{Finished}
-use Rattle.records.proofs.Bytes.{Bytes, heads, opened, two_word, four_dword, two_back, four_back}
+use Rattle.records.proofs.Bytes.{Bytes, bytes_drop, two_word, four_dword}
 
 -- a record written and then read
 
 call_back : (c : Call) (rest : List ℕ) → Fits c → call_in (form_of c) (together (body_of c) ++ rest) ≡ c
-call_back (Load s k) rest v = let p = two_back s v.0 in let q = four_back k v.1 in cc
-call_back (Unload s k) rest v = let p = two_back s v.0 in let q = four_back k v.1 in cc
-call_back (Shift f t k) rest v = let p = two_back f v.0 in let r = two_back t v.1 in let q = four_back k v.2 in cc
+call_back (Load s k) rest v = let p = from_le_bytes-to_le_bytes_2 s v.0 in let q = from_le_bytes-to_le_bytes_4 k v.1 in cc
+call_back (Unload s k) rest v = let p = from_le_bytes-to_le_bytes_2 s v.0 in let q = from_le_bytes-to_le_bytes_4 k v.1 in cc
+call_back (Shift f t k) rest v = let p = from_le_bytes-to_le_bytes_2 f v.0 in let r = from_le_bytes-to_le_bytes_2 t v.1 in let q = from_le_bytes-to_le_bytes_4 k v.2 in cc
 call_back (Change s k) rest v =
-    let p = two_back s v.0 in
-    let q = four_back (of_z w32 k) (of_z_fits w32 k v.1).fits in
+    let p = from_le_bytes-to_le_bytes_2 s v.0 in
+    let q = from_le_bytes-to_le_bytes_4 (of_z w32 k) (of_z_fits w32 k v.1).fits in
     let z = to_z-of_z w32 k v.1 in
     cc
 
@@ -35,47 +35,16 @@ long (Unload s k) = refl
 long (Shift f t k) = refl
 long (Change s k) = refl
 
--- the header of a record, as the reader takes it
-header : (c : Call) (rest : List ℕ) (at : ℕ) → of_header (word (encode c ++ rest) 0) (word (encode c ++ rest) 2) (drop 4 (encode c ++ rest)) at ≡ of_header (counted_of (form_of c)) (kind_of (form_of c)) (together (body_of c) ++ rest) at
-header (Load s k) rest at = refl
-header (Unload s k) rest at = refl
-header (Shift f t k) rest at = refl
-header (Change s k) rest at = refl
-
-by_form : (c : Call) (body : List ℕ) (at : ℕ) → of_form (form_of_kind (kind_of (form_of c))) (counted_of (form_of c)) body at ≡ Ok (call_in (form_of c) body, at + (2 + counted_of (form_of c)))
-by_form (Load s k) body at = refl
-by_form (Unload s k) body at = refl
-by_form (Shift f t k) body at = refl
-by_form (Change s k) body at = refl
-
-body_long : (c : Call) → 2 + length (together (body_of c)) ≡ counted_of (form_of c)
-body_long (Load s k) = refl
-body_long (Unload s k) = refl
-body_long (Shift f t k) = refl
-body_long (Change s k) = refl
-
 front_back : (c : Call) (rest : List ℕ) (at : ℕ) → Fits c → record_in (encode c ++ rest) at ≡ Ok (c, at + length (encode c))
-front_back c rest at v =
-    let n : length (encode c ++ rest) ≡ length (encode c) + length rest = length-append (encode c) rest in
-    let m : length (together (body_of c) ++ rest) ≡ length (together (body_of c)) + length rest = length-append (together (body_of c)) rest in
-    let p = long c in
-    let q = body_long c in
-    let four_there : 4 ≤ length (encode c ++ rest) = omega arith in
-    let all_there : counted_of (form_of c) ≤ 2 + length (together (body_of c) ++ rest) = omega arith in
-    cond-false (ltb (length (encode c ++ rest)) 4) _ _ (le-ltb _ _ four_there)
-    ∙ header c rest at
-    ∙ cond-false (ltb (2 + length (together (body_of c) ++ rest)) (counted_of (form_of c))) _ _ (le-ltb _ _ all_there)
-    ∙ by_form c (together (body_of c) ++ rest) at
-    ∙ ap (λ (x : Call). Ok (x, at + (2 + counted_of (form_of c)))) (call_back c rest v)
-    ∙ ap (λ (k : ℕ). Ok (c, at + k)) (sym p)
+front_back (Load s k) rest at v = grind (arith, nat_tests, call_back (Load s k) rest v)
+front_back (Unload s k) rest at v = grind (arith, nat_tests, call_back (Unload s k) rest v)
+front_back (Shift f t k) rest at v = grind (arith, nat_tests, call_back (Shift f t k) rest v)
+front_back (Change s k) rest at v = grind (arith, nat_tests, call_back (Change s k) rest v)
 
 complete : (bs : List ℕ) (at : ℕ) (c : Call) (next : ℕ) → Stands bs at c next → record_in bs at ≡ Ok (c, next)
 complete bs at c next s = ap (λ (l : List ℕ). record_in l at) s.2.1 ∙ front_back c s.2.0 at s.0 ∙ ap (λ (k : ℕ). Ok (c, k)) (sym s.1)
 
 -- a record that was accepted
-
-bytes_drop : (bs : List ℕ) (n : ℕ) → Bytes bs → Bytes (drop n bs)
-bytes_drop bs n h i = let e = get_or-drop n bs i 0 in let l = h (n + i) in omega arith
 
 word_fits : (bs : List ℕ) (at : ℕ) → Bytes bs → word bs at < 2 ^ 16
 word_fits bs at h = omega (arith, h at, h (at + 1))
@@ -99,14 +68,21 @@ form_back forms.Shift bs = refl
 form_back forms.Change bs = refl
 
 -- the body of the call that was read is the bytes that it was read from
-six : (bs : List ℕ) → Bytes bs → two (word bs 0) ++ (four (dword bs 2) ++ []) ≡ heads 6 0 bs
-six bs h = let p = two_word bs 0 h in let q = four_dword bs 2 h in cc
+six : (bs : List ℕ) (at : ℕ) → Bytes bs → at + 6 ≤ length bs → two (word bs at) ++ (four (dword bs (at + 2)) ++ []) ≡ take 6 (drop at bs)
+six bs at h l =
+    ap (λ (r : List ℕ). r ++ (four (dword bs (at + 2)) ++ [])) (two_word bs at h (omega arith))
+    ∙ ap (λ (r : List ℕ). take 2 (drop at bs) ++ r) (append-nil (four (dword bs (at + 2))) ∙ four_dword bs (at + 2) h (omega arith))
+    ∙ ap (λ (r : List ℕ). take 2 (drop at bs) ++ take 4 r) (sym (drop-drop 2 at bs))
+    ∙ sym (take-add 2 4 (drop at bs))
 
-body_back : (f : Form) (bs : List ℕ) → Bytes bs → together (body_of (call_in f bs)) ≡ heads (counted_of f - 2) 0 bs
-body_back forms.Load bs h = six bs h
-body_back forms.Unload bs h = six bs h
-body_back forms.Shift bs h = let p = two_word bs 0 h in let r = two_word bs 2 h in let q = four_dword bs 4 h in cc
-body_back forms.Change bs h = ap (λ (n : ℕ). two (word bs 0) ++ (four n ++ [])) (of_z-to_z w32 (dword bs 2) (dword_fits bs 2 h)) ∙ six bs h
+body_back : (f : Form) (bs : List ℕ) → Bytes bs → counted_of f - 2 ≤ length bs → together (body_of (call_in f bs)) ≡ take (counted_of f - 2) bs
+body_back forms.Load bs h l = six bs 0 h l
+body_back forms.Unload bs h l = six bs 0 h l
+body_back forms.Shift bs h l =
+    ap (λ (r : List ℕ). r ++ (two (word bs 2) ++ (four (dword bs 4) ++ []))) (two_word bs 0 h (omega arith))
+    ∙ ap (λ (r : List ℕ). take 2 bs ++ r) (six bs 2 h l)
+    ∙ sym (take-add 2 6 bs)
+body_back forms.Change bs h l = ap (λ (n : ℕ). two (word bs 0) ++ (four n ++ [])) (of_z-to_z w32 (dword bs 2) (dword_fits bs 2 h)) ∙ six bs 0 h l
 
 kind_back : (k : ℕ) (f : Form) → form_of_kind k ≡ Some f → k ≡ kind_of f
 kind_back k forms.Load e = grind (arith, nat_tests)
@@ -117,10 +93,6 @@ kind_back k forms.Change e = grind (arith, nat_tests)
 abbrev Answer : Type 0
 Answer = Result (Call × ℕ) RecordFault
 
--- a refusal is no answer
-never : {P : Type 0} (f : RecordFault) (x : Call × ℕ) → ◌≡◌ {A = Answer} (Err f) (Ok x) → P
-never f x e = let z : ◌≡◌ {A = ℕ} 0 1 = cc in absurd (omega arith)
-
 record Accepted (n : ℕ) (o : Option Form) (body : List ℕ) (at : ℕ) (c : Call) (next : ℕ) : Type 0 where
   form : Form
   kind : o ≡ Some form
@@ -129,24 +101,15 @@ record Accepted (n : ℕ) (o : Option Form) (body : List ℕ) (at : ℕ) (c : Ca
   after : next ≡ at + (2 + n)
 
 accepted : (n : ℕ) (o : Option Form) (body : List ℕ) (at : ℕ) (c : Call) (next : ℕ) → of_form o n body at ≡ Ok (c, next) → Accepted n o body at c next
-accepted n None body at c next e = never (UnknownKind at) (c, next) e
-accepted n (Some f) body at c next e = by (eqb n (counted_of f)) refl
-  where
-    by : (b : Bool) → eqb n (counted_of f) ≡ b → Accepted n (Some f) body at c next
-    by true h =
-        let z : ◌≡◌ {A = Answer} (Ok (call_in f body, at + (2 + n))) (Ok (c, next)) = sym (cond-true (eqb n (counted_of f)) _ _ h) ∙ e in
-        let w : ◌≡◌ {A = Call × ℕ} (c, next) (call_in f body, at + (2 + n)) = cc in
-        record { form = f; kind = refl; count = eqb-true _ _ h; call = ap (λ (p : Call × ℕ). p.0) w; after = ap (λ (p : Call × ℕ). p.1) w }
-    by false h = never (WrongLength at) (c, next) (sym (cond-false (eqb n (counted_of f)) (Ok (call_in f body, at + (2 + n))) (Err (WrongLength at)) h) ∙ e)
+accepted n None body at c next e = cc
+accepted n (Some f) body at c next e = record { form = f; kind = refl; count = grind (arith, nat_tests); call = grind (arith, nat_tests); after = grind (arith, nat_tests) }
 
 -- the bytes of a header and of the body after it
-header_back : (bs : List ℕ) (f : Form) → Bytes bs → word bs 0 ≡ counted_of f → word bs 2 ≡ kind_of f → two (counted_of f) ++ two (kind_of f) ≡ heads 4 0 bs
-header_back bs f h n k =
-    let p = two_word bs 0 h in
-    let q = two_word bs 2 h in
-    let r : two (counted_of f) ≡ two (word bs 0) = ap two (sym n) in
-    let s : two (kind_of f) ≡ two (word bs 2) = ap two (sym k) in
-    ap (λ (l : List ℕ). l ++ two (kind_of f)) (r ∙ p) ∙ ap (λ (l : List ℕ). (get_or bs 0 0 ∷ get_or bs 1 0 ∷ []) ++ l) (s ∙ q)
+header_back : (bs : List ℕ) (f : Form) → Bytes bs → 4 ≤ length bs → word bs 0 ≡ counted_of f → word bs 2 ≡ kind_of f → two (counted_of f) ++ two (kind_of f) ≡ take 4 bs
+header_back bs f h l n k =
+    ap (λ (r : List ℕ). r ++ two (kind_of f)) (ap two (sym n) ∙ two_word bs 0 h (omega arith))
+    ∙ ap (λ (r : List ℕ). take 2 bs ++ r) (ap two (sym k) ∙ two_word bs 2 h l)
+    ∙ sym (take-add 2 2 bs)
 
 record Front (bs : List ℕ) (at : ℕ) (c : Call) (next : ℕ) : Type 0 where
   whole : 4 ≤ length bs
@@ -154,17 +117,7 @@ record Front (bs : List ℕ) (at : ℕ) (c : Call) (next : ℕ) : Type 0 where
   rest : of_form (form_of_kind (word bs 2)) (word bs 0) (drop 4 bs) at ≡ Ok (c, next)
 
 front_accepts : (bs : List ℕ) (at : ℕ) (c : Call) (next : ℕ) → record_in bs at ≡ Ok (c, next) → Front bs at c next
-front_accepts bs at c next e = by (ltb (length bs) 4) refl (ltb (2 + length (drop 4 bs)) (word bs 0)) refl
-  where
-    by : (a : Bool) → ltb (length bs) 4 ≡ a → (b : Bool) → ltb (2 + length (drop 4 bs)) (word bs 0) ≡ b → Front bs at c next
-    by true p b q = never (Short at) (c, next) (sym (cond-true (ltb (length bs) 4) _ _ p) ∙ e)
-    by false p true q = never (Short at) (c, next) (sym (cond-true (ltb (2 + length (drop 4 bs)) (word bs 0)) _ _ q) ∙ sym (cond-false (ltb (length bs) 4) _ _ p) ∙ e)
-    by false p false q =
-        record {
-          whole = ltb-false _ _ p;
-          enough = ltb-false _ _ q;
-          rest = sym (cond-false (ltb (2 + length (drop 4 bs)) (word bs 0)) _ _ q) ∙ sym (cond-false (ltb (length bs) 4) _ _ p) ∙ e;
-        }
+front_accepts bs at c next e = record { whole = grind (arith, nat_tests); enough = grind (arith, nat_tests); rest = grind (arith, nat_tests) }
 
 front_sound : (bs : List ℕ) (at : ℕ) (c : Call) (next : ℕ) → Bytes bs → record_in bs at ≡ Ok (c, next) → Stands bs at c next
 front_sound bs at c next h e =
@@ -172,17 +125,17 @@ front_sound bs at c next h e =
     let body = drop 4 bs in
     let a = accepted (word bs 0) (form_of_kind (word bs 2)) body at c next w.rest in
     let f = a.form in
-    let g = bytes_drop bs 4 h in
+    let g = bytes_drop 4 bs h in
     let n : counted_of f - 2 ≤ length body = omega (arith, w.enough, a.count) in
     let same : form_of (call_in f body) ≡ f = form_back f body in
     let size : at + (2 + word bs 0) ≡ at + length (encode (call_in f body)) =
     ap (λ (k : ℕ). at + (2 + k)) (a.count ∙ ap counted_of (sym same)) ∙ ap (λ (k : ℕ). at + k) (sym (long (call_in f body))) in
-    let rest = drop (0 + (counted_of f - 2)) body in
+    let rest = drop (counted_of f - 2) body in
     let bytes : bs ≡ encode (call_in f body) ++ rest =
-    opened 4 0 bs (omega (arith, w.whole))
-    ∙ ap (λ (l : List ℕ). heads 4 0 bs ++ l) (opened (counted_of f - 2) 0 body (omega arith))
-    ∙ ap (λ (l : List ℕ). heads 4 0 bs ++ (l ++ rest)) (sym (body_back f body g))
-    ∙ ap (λ (l : List ℕ). l ++ (together (body_of (call_in f body)) ++ rest)) (sym (header_back bs f h a.count (kind_back (word bs 2) f a.kind)))
+    sym (take-append-drop 4 bs)
+    ∙ ap (λ (l : List ℕ). take 4 bs ++ l) (sym (take-append-drop (counted_of f - 2) body))
+    ∙ ap (λ (l : List ℕ). take 4 bs ++ (l ++ rest)) (sym (body_back f body g n))
+    ∙ ap (λ (l : List ℕ). l ++ (together (body_of (call_in f body)) ++ rest)) (sym (header_back bs f h w.whole a.count (kind_back (word bs 2) f a.kind)))
     ∙ ap (λ (k : Form). (two (counted_of k) ++ two (kind_of k)) ++ (together (body_of (call_in f body)) ++ rest)) (sym same)
     in
     subst (λ (x : Call). Stands bs at x next) (sym a.call)
@@ -191,26 +144,6 @@ front_sound bs at c next h e =
 pub exact : (bs : List ℕ) (at : ℕ) (r : Answer) → Bytes bs → r ≡ record_in bs at → Exactly bs at r
 exact bs at r h e =
     record { sound = λ c next k. front_sound bs at c next h (sym e ∙ k); complete = λ c next s. e ∙ complete bs at c next s }
-
--- what the reader's pattern opens
-
-pub too_short : (bs : List ℕ) (at : ℕ) → length bs < 4 → Err (Short at) ≡ record_in bs at
-too_short bs at l = sym (cond-true (ltb (length bs) 4) _ _ (lt-ltb _ _ l))
-
-pub by_header : (bs : List ℕ) (at n k : ℕ) → n ≡ word bs 0 → k ≡ word bs 2 → 4 ≤ length bs → of_header n k (take (length bs - 4) (drop 4 bs)) at ≡ record_in bs at
-by_header bs at n k p q l =
-    ap (λ (x : ℕ). of_header x k (take (length bs - 4) (drop 4 bs)) at) p
-    ∙ ap (λ (x : ℕ). of_header (word bs 0) x (take (length bs - 4) (drop 4 bs)) at) q
-    ∙ ap (λ (b : List ℕ). of_header (word bs 0) (word bs 2) b at) (take_rest bs 4)
-    ∙ sym (cond-false (ltb (length bs) 4) _ _ (le-ltb _ _ l))
-
--- the bytes from `at` on, which a slice that begins at the lesser of `at` and its length holds
-pub from_start : (bs : List ℕ) (at start : ℕ) → start ≡ min at (length bs) → take (length bs - start) (drop start bs) ≡ drop at bs
-from_start bs at start e = take_rest bs start ∙ by (ltb at (length bs)) refl
-  where
-    by : (b : Bool) → ltb at (length bs) ≡ b → drop start bs ≡ drop at bs
-    by true h = let l : at < length bs = ltb-true _ _ h in ap (λ (k : ℕ). drop k bs) (omega arith)
-    by false h = let l : length bs ≤ at = ltb-false _ _ h in drop_all start bs (omega arith) ∙ sym (drop_all at bs l)
 
 -- what was written at the front stands there
 pub stands_written : {before after : List ℕ} {c : Call} {end : ℕ} → Fits c → Finished before 0 c after end → Stands after 0 c end

@@ -1,18 +1,8 @@
 -- Bytes laid over a memory: one piece after another is one piece, and nothing else changes.
 use Rattle.std.proofs.Common.{◌≡◌, ℕ, ◌+◌, ◌≤◌, List, ◌++◌, length, take, drop, sym, refl, ap, ◌∙◌, arith, length-append}
 use lib.Seq.{paste}
-use borrow.Rule.Slice.PartMut.{put_mid}
-use Rattle.std.proofs.lemmas.Slice.{put_mid-paste}
 use Rattle.std.proofs.lemmas.List.Edits.{paste_all, paste-paste, length-paste}
-use Rattle.std.proofs.lemmas.List.{take-append-drop}
 use Rattle.records.specs.Writing.{over}
-
--- what a write to a part of a slice leaves
-pub putMid_over : (at k : ℕ) (xs bs ys : List ℕ) → ys ≡ bs → length bs ≡ k → put_mid at k xs ys ≡ over xs at bs
-putMid_over at k xs bs ys e l = put_mid-paste at k xs ys bs (length bs) e l refl ∙ paste_all xs at bs (length bs) refl
-
-pub over_nothing : (xs : List ℕ) (at n : ℕ) → n ≡ at → take at xs ++ drop n xs ≡ xs
-over_nothing xs at n e = ap (λ (m : ℕ). take at xs ++ drop m xs) e ∙ take-append-drop at xs
 
 pub over_over : (xs : List ℕ) (at : ℕ) (ys zs : List ℕ) → at ≤ length xs → over (over xs at ys) (at + length ys) zs ≡ over xs at (ys ++ zs)
 over_over xs at ys zs h =

@@ -1,105 +1,43 @@
 -- Fields put one by one: two runs of puts are one run, and a whole record is its encoding.
-use Rattle.std.proofs.Common.{◌≡◌, ℕ, ◌+◌, ◌<◌, ◌≤◌, Bool, true, false, leb, List, [], ◌∷◌, ◌++◌, length, Ok, Err, Result, sym, refl, ap, ◌∙◌, subst, arith, length-append}
-use Rattle.std.proofs.lemmas.List.{append_assoc, append-nil}
-use Rattle.std.proofs.lemmas.Bool.{le-leb, lt-leb, leb-true, leb-false, cond-true, cond-false}
+use Rattle.std.proofs.Common.{◌≡◌, ℕ, ◌+◌, ◌<◌, ◌≤◌, Bool, true, false, eqb, List, [], ◌∷◌, ◌++◌, length, get_or, take, drop, Ok, Err, Result, sym, refl, ap, ◌∙◌, subst, arith, length-append}
+use Rattle.std.proofs.lemmas.List.{append_assoc, take_more, take-append-drop}
+use Rattle.std.proofs.lemmas.Bool.Decides.{nat_tests}
+use Rattle.std.proofs.lemmas.Bool.{eqb-true, eqb-false}
 use Rattle.records.specs.declared.call.Call.{Call}
 use Rattle.records.specs.declared.fault.RecordFault.{RecordFault}
 use Rattle.records.specs.declared.fault.RecordFault.TheVariants.{NoRoom}
 use Rattle.records.specs.Records.{fields_of, together, encode}
 use Rattle.records.specs.Writing.{over, fitting, room_to, Put, Finished, Refused}
-use Rattle.records.proofs.Overs.{over_nothing, over_over, length_over}
+use Rattle.records.proofs.Overs.{over_over, length_over}
 
 together_append : (fs gs : List (List ℕ)) → together (fs ++ gs) ≡ together fs ++ together gs
 together_append [] gs = refl
 together_append (f ∷ fs) gs = ap (λ (l : List ℕ). f ++ l) (together_append fs gs) ∙ sym (append_assoc f (together fs) (together gs))
 
--- what is left of a field that fits, and of one that does not
-fit_yes : (size at : ℕ) (f : List ℕ) (fs : List (List ℕ)) → at + length f ≤ size → fitting size at (f ∷ fs) ≡ f ++ fitting size (at + length f) fs
-fit_yes size at f fs h = cond-true (leb (at + length f) size) _ _ (le-leb _ _ h)
-
-fit_no : (size at : ℕ) (f : List ℕ) (fs : List (List ℕ)) → size < at + length f → fitting size at (f ∷ fs) ≡ []
-fit_no size at f fs h = cond-false (leb (at + length f) size) _ _ (lt-leb _ _ h)
-
+-- fields that all fit, and then others
 pub fit_then : (size at : ℕ) (fs gs : List (List ℕ)) → at + length (together fs) ≤ size → fitting size at (fs ++ gs) ≡ together fs ++ fitting size (at + length (together fs)) gs
 fit_then size at [] gs h = ap (λ (n : ℕ). fitting size n gs) (omega arith)
-fit_then size at (f ∷ fs) gs h =
-    let n : length (f ++ together fs) ≡ length f + length (together fs) = length-append f (together fs) in
-    let e : (at + length f) + length (together fs) ≡ at + length (f ++ together fs) = omega arith in
-    fit_yes size at f (fs ++ gs) (omega arith)
-    ∙ ap (λ (l : List ℕ). f ++ l) (fit_then size (at + length f) fs gs (omega arith))
-    ∙ ap (λ (k : ℕ). f ++ (together fs ++ fitting size k gs)) e
-    ∙ sym (append_assoc f (together fs) (fitting size (at + length (f ++ together fs)) gs))
+fit_then size at (f ∷ fs) gs h = grind (arith, nat_tests, append_assoc, length-append, fit_then size (at + length f) fs gs)
 
 pub fit_all : (size at : ℕ) (fs : List (List ℕ)) → at + length (together fs) ≤ size → fitting size at fs ≡ together fs
 fit_all size at [] h = refl
-fit_all size at (f ∷ fs) h =
-    let n : length (f ++ together fs) ≡ length f + length (together fs) = length-append f (together fs) in
-    fit_yes size at f fs (omega arith) ∙ ap (λ (l : List ℕ). f ++ l) (fit_all size (at + length f) fs (omega arith))
+fit_all size at (f ∷ fs) h = grind (arith, nat_tests, length-append, fit_all size (at + length f) fs)
 
+-- fields that do not all fit, whatever follows them
 fit_past : (size at : ℕ) (gs : List (List ℕ)) → size < at → fitting size at gs ≡ []
 fit_past size at [] h = refl
-fit_past size at (g ∷ gs) h = fit_no size at g gs (omega arith)
-
-fit_or_stop : (size at : ℕ) (f : List ℕ) (fs gs : List (List ℕ)) (b : Bool) → leb (at + length f) size ≡ b → (b ≡ true → fitting size (at + length f) (fs ++ gs) ≡ fitting size (at + length f) fs) → fitting size at (f ∷ (fs ++ gs)) ≡ fitting size at (f ∷ fs)
-fit_or_stop size at f fs gs true e rest =
-    let l : at + length f ≤ size = leb-true _ _ e in
-    fit_yes size at f (fs ++ gs) l ∙ ap (λ (r : List ℕ). f ++ r) (rest refl) ∙ sym (fit_yes size at f fs l)
-fit_or_stop size at f fs gs false e rest =
-    let l : size < at + length f = leb-false _ _ e in
-    fit_no size at f (fs ++ gs) l ∙ sym (fit_no size at f fs l)
+fit_past size at (g ∷ gs) h = grind (arith, nat_tests)
 
 pub fit_stop : (size at : ℕ) (fs gs : List (List ℕ)) → size < at + length (together fs) → fitting size at (fs ++ gs) ≡ fitting size at fs
 fit_stop size at [] gs h = fit_past size at gs (omega arith)
-fit_stop size at (f ∷ fs) gs h =
-    let n : length (f ++ together fs) ≡ length f + length (together fs) = length-append f (together fs) in
-    fit_or_stop size at f fs gs (leb (at + length f) size) refl (λ e. fit_stop size (at + length f) fs gs (omega arith))
+fit_stop size at (f ∷ fs) gs h = grind (arith, nat_tests, length-append, fit_stop size (at + length f) fs gs)
 
 -- an answer says whether there was room
 ok_room : (at n : ℕ) → Ok tt ≡ room_to at n → at ≤ n
-ok_room at n h = by (leb at n) refl
-  where
-    by : (b : Bool) → leb at n ≡ b → at ≤ n
-    by true e = leb-true _ _ e
-    by false e =
-        let z : ◌≡◌ {A = Result (Unit {0}) RecordFault} (Ok tt) (Err NoRoom) = h ∙ cond-false (leb at n) (Ok tt) (Err NoRoom) e in
-        let w : ◌≡◌ {A = ℕ} 0 1 = cc in
-        omega arith
+ok_room at n h = grind (arith, nat_tests)
 
 err_full : (f : RecordFault) (at n : ℕ) → Err f ≡ room_to at n → (f ≡ NoRoom) × (n < at)
-err_full f at n h = by (leb at n) refl
-  where
-    by : (b : Bool) → leb at n ≡ b → (f ≡ NoRoom) × (n < at)
-    by true e =
-        let z : ◌≡◌ {A = Result (Unit {0}) RecordFault} (Err f) (Ok tt) = h ∙ cond-true (leb at n) (Ok tt) (Err NoRoom) e in
-        let w : ◌≡◌ {A = ℕ} 0 1 = cc in
-        (cc, omega arith)
-    by false e =
-        let z : ◌≡◌ {A = Result (Unit {0}) RecordFault} (Err f) (Err NoRoom) = h ∙ cond-false (leb at n) (Ok tt) (Err NoRoom) e in
-        (cc, leb-false _ _ e)
-
--- one field, with room for it and without
-pub put_one : {f xs ys : List ℕ} {at to : ℕ} → at + length f ≤ length xs → to ≡ at + length f → ys ≡ over xs at f → Put (f ∷ []) xs at ys to (Ok tt)
-put_one {f} {xs} {ys} {at} {to} room came laid =
-    let e : f ++ [] ≡ f = append-nil f in
-    let n : length (f ++ []) ≡ length f = ap length e in
-    let all : fitting (length xs) at (f ∷ []) ≡ f = fit_yes (length xs) at f [] room ∙ e in
-    let fits : at + length (f ++ []) ≤ length xs = omega arith in
-    record {
-      answer = sym (cond-true (leb (at + length (f ++ [])) (length xs)) (Ok tt) (Err NoRoom) (le-leb _ _ fits));
-      place = came ∙ ap (λ (l : List ℕ). at + length l) (sym all);
-      bytes = laid ∙ ap (over xs at) (sym all);
-    }
-
-pub put_none : {f xs ys : List ℕ} {at to : ℕ} → length xs < at + length f → to ≡ at → ys ≡ xs → Put (f ∷ []) xs at ys to (Err NoRoom)
-put_none {f} {xs} {ys} {at} {to} full came same =
-    let n : length (f ++ []) ≡ length f = ap length (append-nil f) in
-    let none : fitting (length xs) at (f ∷ []) ≡ [] = fit_no (length xs) at f [] full in
-    let past : length xs < at + length (f ++ []) = omega arith in
-    record {
-      answer = sym (cond-false (leb (at + length (f ++ [])) (length xs)) (Ok tt) (Err NoRoom) (lt-leb _ _ past));
-      place = let m : length (fitting (length xs) at (f ∷ [])) ≡ 0 = ap length none in omega arith;
-      bytes = same ∙ sym (over_nothing xs at (at + 0) (omega arith)) ∙ ap (over xs at) (sym none);
-    }
+err_full f at n h = (grind (arith, nat_tests), grind (arith, nat_tests))
 
 pub put_as : {fs gs : List (List ℕ)} {xs ys : List ℕ} {at to : ℕ} {r : Result (Unit {0}) RecordFault} → fs ≡ gs → Put fs xs at ys to r → Put gs xs at ys to r
 put_as {xs = xs} {ys} {at} {to} {r} e p = subst (λ (l : List (List ℕ)). Put l xs at ys to r) e p
@@ -145,10 +83,36 @@ put_stop {fs} {xs} {ys} {at} {to} {f} gs p =
     let whole : length (together (fs ++ gs)) ≡ length (together fs) + length (together gs) = ap length (together_append fs gs) ∙ length-append (together fs) (together gs) in
     let full : length xs < at + length (together (fs ++ gs)) = omega (arith, no.1) in
     record {
-      answer = ap (λ (g : RecordFault). Err g) no.0 ∙ sym (cond-false (leb (at + length (together (fs ++ gs))) (length xs)) (Ok tt) (Err NoRoom) (lt-leb _ _ full));
+      answer = grind (arith, nat_tests, no.0);
       place = p.place ∙ ap (λ (l : List ℕ). at + length l) (sym same);
       bytes = p.bytes ∙ ap (over xs at) (sym same);
     }
+
+-- the first i of the fields fs were put, one by one
+pub record Begun (i : ℕ) (fs : List (List ℕ)) (xs : List ℕ) (at : ℕ) (ys : List ℕ) (to : ℕ) : Type 0 where
+  pub none : i ≡ 0 → (ys ≡ xs) × (to ≡ at)
+  pub some : 0 < i → Put (take i fs) xs at ys to (Ok tt)
+
+-- and then the next of them, which is f
+put_next : {f : List ℕ} (fs : List (List ℕ)) (i : ℕ) {xs ys zs : List ℕ} {at to end : ℕ} {r : Result (Unit {0}) RecordFault} → f ≡ get_or fs i [] → i < length fs → Begun i fs xs at ys to → Put (f ∷ []) ys to zs end r → Put (take (i + 1) fs) xs at zs end r
+put_next {f} fs i {xs} {ys} {zs} {at} {to} {end} {r} e l b p = by (eqb i 0) refl
+  where
+    more : take i fs ++ f ∷ [] ≡ take (i + 1) fs
+    more = ap (λ (g : List ℕ). take i fs ++ g ∷ []) e ∙ sym (take_more fs i [] l)
+
+    by : (c : Bool) → eqb i 0 ≡ c → Put (take (i + 1) fs) xs at zs end r
+    by true h =
+        let z : i ≡ 0 = eqb-true _ _ h in
+        let n = b.none z in
+        put_as (ap (λ (k : ℕ). take k fs ++ f ∷ []) (sym z) ∙ more) (rw (n.0, n.1) at p)
+    by false h = put_as more (put_then (b.some (omega (arith, eqb-false _ _ h))) p)
+
+pub put_more : {f : List ℕ} (fs : List (List ℕ)) (i : ℕ) {xs ys zs : List ℕ} {at to end : ℕ} → f ≡ get_or fs i [] → i < length fs → Begun i fs xs at ys to → Put (f ∷ []) ys to zs end (Ok tt) → Begun (i + 1) fs xs at zs end
+put_more fs i e l b p = record { none = λ z. absurd (omega arith); some = λ _. put_next fs i e l b p }
+
+-- a run that stopped at one of the fields is the run of all of them
+pub put_short : {f : List ℕ} (fs : List (List ℕ)) (i : ℕ) {xs ys zs : List ℕ} {at to end : ℕ} {g : RecordFault} → f ≡ get_or fs i [] → i < length fs → Begun i fs xs at ys to → Put (f ∷ []) ys to zs end (Err g) → Put fs xs at zs end (Err g)
+put_short fs i e l b p = put_as (take-append-drop (i + 1) fs) (put_stop (drop (i + 1) fs) (put_next fs i e l b p))
 
 -- all fields of a record
 pub finished : {c : Call} {xs ys : List ℕ} {at to to' : ℕ} → Put (fields_of c) xs at ys to (Ok tt) → to' ≡ to → Finished xs at c ys to'

@@ -5,7 +5,7 @@ ghost use Rattle.records.specs.Faults.{fault_number, fault_layer, fault_place};
 const LAYER: u8 = 1;
 
 // Why a record could not be written or read.
-#[derive(Clone, Copy)]
+#[derive(Clone, Copy, Debug, PartialEq, Eq)]
 pub enum RecordFault {
     // The caller's memory has no room for the next field.
     NoRoom,
@@ -43,9 +43,9 @@ impl RecordFault {
     {
         match self {
             RecordFault::NoRoom => 0,
-            RecordFault::Short { at } => *at,
-            RecordFault::UnknownKind { at } => *at,
-            RecordFault::WrongLength { at } => *at,
+            RecordFault::Short { at }
+            | RecordFault::UnknownKind { at }
+            | RecordFault::WrongLength { at } => *at,
         }
     }
 }

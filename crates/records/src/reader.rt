@@ -1,25 +1,17 @@
-ghost use Rattle.std.specs.Prelude.{◌≡◌, ◌+◌, ◌^◌, ◌<◌, ◌≤◌, length, drop};
+ghost use Rattle.std.specs.Prelude.{◌≡◌, ◌+◌, ◌^◌, ◌<◌, ◌≤◌, length, take, drop};
 ghost use Rattle.records.specs.Forms.{counted_of};
-ghost use Rattle.records.specs.Reading.{word, dword, call_in, of_header, record_in, Exactly};
+ghost use Rattle.records.specs.Reading.{call_in, of_header, record_in, Exactly};
 
 use crate::call::Call;
 use crate::fault::RecordFault;
 use crate::form::Form;
 
-// The number in the two bytes from `at` on.
-fn word_at(bytes: &[u8], at: usize) -> u16
-    requires { at + 2 ≤ length bytes.now }
-    ensures { result ≡ word bytes.now at }
+// The N bytes from `at` on.
+fn field<const N: usize>(body: &[u8], at: usize) -> [u8; N]
+    requires { at + N ≤ length body.now }
+    ensures { result ≡ take N (drop at body.now) }
 {
-    u16::from_le_bytes([bytes[at], bytes[at + 1]])
-}
-
-// The number in the four bytes from `at` on.
-fn dword_at(bytes: &[u8], at: usize) -> u32
-    requires { at + 4 ≤ length bytes.now }
-    ensures { result ≡ dword bytes.now at }
-{
-    u32::from_le_bytes([bytes[at], bytes[at + 1], bytes[at + 2], bytes[at + 3]])
+    *body[at..].first_chunk().unwrap()
 }
 
 // The call in a body of this form, which is long enough.
@@ -29,21 +21,21 @@ fn call_of(form: Form, body: &[u8]) -> Call
 {
     match form {
         Form::Load => Call::Load {
-            station: word_at(body, 0),
-            kg: dword_at(body, 2),
+            station: u16::from_le_bytes(field(body, 0)),
+            kg: u32::from_le_bytes(field(body, 2)),
         },
         Form::Unload => Call::Unload {
-            station: word_at(body, 0),
-            kg: dword_at(body, 2),
+            station: u16::from_le_bytes(field(body, 0)),
+            kg: u32::from_le_bytes(field(body, 2)),
         },
         Form::Shift => Call::Shift {
-            from: word_at(body, 0),
-            to: word_at(body, 2),
-            kg: dword_at(body, 4),
+            from: u16::from_le_bytes(field(body, 0)),
+            to: u16::from_le_bytes(field(body, 2)),
+            kg: u32::from_le_bytes(field(body, 4)),
         },
         Form::Change => Call::Change {
-            station: word_at(body, 0),
-            kg: dword_at(body, 2).cast_signed(),
+            station: u16::from_le_bytes(field(body, 0)),
+            kg: i32::from_le_bytes(field(body, 2)),
         },
     }
 }
@@ -53,19 +45,19 @@ fn after_header(count: u16, kind: u16, body: &[u8], at: usize) -> Result<(Call, 
     requires { at + (4 + length body.now) < 2 ^ 64 }
     ensures { result ≡ of_header count kind body.now at }
 {
-    if 2 + body.len() < count as usize {
+    let size = usize::from(count);
+    if 2 + body.len() < size {
         return Err(RecordFault::Short { at });
     }
-    let Some(form) = Form::of_kind(kind) else {
-        return Err(RecordFault::UnknownKind { at });
-    };
+    let form = Form::try_from(kind).map_err(|_| RecordFault::UnknownKind { at })?;
     if count != form.counted() {
         return Err(RecordFault::WrongLength { at });
     }
-    Ok((call_of(form, body), at + (2 + count as usize)))
+    Ok((call_of(form, body), at + (2 + size)))
 }
 
-// The record that begins these bytes, of which the first stands at `at`.
+// The record that begins these bytes, of which the first stands at `at`. That their end is a number is shown once,
+// by `bytes_from`, and passed on: a struct of bytes and place would serve two functions only.
 fn front(bytes: &[u8], at: usize) -> Result<(Call, usize), RecordFault>
     requires { at + length bytes.now < 2 ^ 64 }
     ensures value { result ≡ record_in bytes.now at }
@@ -84,8 +76,7 @@ fn bytes_from(bytes: &[u8], at: usize) -> &[u8]
     ensures value { result.now ≡ drop at bytes.now }
     ensures bound { at + length result.now < 2 ^ 64 }
 {
-    let start = at.min(bytes.len());
-    &bytes[start..]
+    bytes.get(at..).unwrap_or(&[])
 }
 
 // The record that begins at `at`, and where the next one begins. Refusals come in this order: bytes that

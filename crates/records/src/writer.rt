@@ -1,5 +1,5 @@
-ghost use Rattle.std.specs.Prelude.{◌≡◌, [], ◌∷◌, if◌then◌else◌, MatchResult};
-ghost use Rattle.records.specs.Records.{two, four, body_of, fields_of};
+ghost use Rattle.std.specs.Prelude.{◌≡◌, ◌<◌, [], ◌∷◌, length, map, unwrap_or, MatchResult};
+ghost use Rattle.records.specs.Records.{fields_of};
 ghost use Rattle.records.specs.Writing.{Put, Finished, Refused};
 
 use crate::call::Call;
@@ -14,68 +14,44 @@ struct Place {
 // Puts the place back on every way out, unless the record was finished.
 struct Mark<'a> {
     place: &'a mut Place,
-    was: usize,
-    finished: bool,
+    back_to: Option<usize>,
 }
 
 impl Drop for Mark<'_> {
     fn drop(self)
-        ensures { self.exit.0.now.at ≡ (if self.entry.finished then self.entry.place.now.at else self.entry.was) }
+        ensures { self.exit.0.now.at ≡ unwrap_or self.entry.back_to self.entry.place.now.at }
     {
-        if !self.finished {
-            self.place.at = self.was;
+        let Mark { place, back_to } = self;
+        if let Some(at) = back_to {
+            place.at = at;
         }
-        let Mark {
-            place: _,
-            was: _,
-            finished: _,
-        } = self;
     }
 }
 
-// Puts one field at the place, if there is room for it.
+// Puts one field at the place, if there is room for it. A mark borrows the place alone, so the memory goes
+// beside it.
 fn put(out: &mut [u8], place: &mut Place, field: &[u8]) -> Result<(), RecordFault>
     ensures { Put (field.now ∷ []) out.old place.old.at out.new place.new.at result }
 {
-    let at = place.at;
-    if at > out.len() || field.len() > out.len() - at {
+    // By a test and an index: after `get_mut` of a range the proof does not know what `out` holds.
+    let end = place.at.saturating_add(field.len());
+    if end > out.len() {
         return Err(RecordFault::NoRoom);
     }
-    let end = at + field.len();
-    out[at..end].copy_from_slice(field);
+    out[place.at..end].copy_from_slice(field);
     place.at = end;
     Ok(())
 }
 
-// Puts a number in two bytes.
-fn put_word(out: &mut [u8], place: &mut Place, word: u16) -> Result<(), RecordFault>
-    ensures { Put (two word ∷ []) out.old place.old.at out.new place.new.at result }
+// Puts fields one after another, as far as there is room. With no field it could not say whether there is room.
+fn put_all(out: &mut [u8], place: &mut Place, fields: &[&[u8]]) -> Result<(), RecordFault>
+    requires { 0 < length fields.now }
+    ensures { Put (map (λ field. field.now) fields.now) out.old place.old.at out.new place.new.at result }
 {
-    put(out, place, &word.to_le_bytes())
-}
-
-// Puts a station and kilograms.
-fn put_load(out: &mut [u8], place: &mut Place, station: u16, kg: u32) -> Result<(), RecordFault>
-    ensures { Put (two station ∷ four kg ∷ []) out.old place.old.at out.new place.new.at result }
-{
-    put_word(out, place, station)?;
-    put(out, place, &kg.to_le_bytes())
-}
-
-// Puts the body of a record.
-fn put_body(out: &mut [u8], place: &mut Place, call: &Call) -> Result<(), RecordFault>
-    ensures { Put (body_of call.now) out.old place.old.at out.new place.new.at result }
-{
-    match *call {
-        Call::Load { station, kg } | Call::Unload { station, kg } => put_load(
-            out, place, station, kg,
-        ),
-        Call::Shift { from, to, kg } => {
-            put_word(out, place, from)?;
-            put_load(out, place, to, kg)
-        }
-        Call::Change { station, kg } => put_load(out, place, station, kg.cast_unsigned()),
+    for field in fields {
+        put(out, place, field)?;
     }
+    Ok(())
 }
 
 // Puts the fields of a whole record, as far as there is room.
@@ -83,9 +59,31 @@ fn put_fields(out: &mut [u8], place: &mut Place, call: &Call) -> Result<(), Reco
     ensures { Put (fields_of call.now) out.old place.old.at out.new place.new.at result }
 {
     let form = call.form();
-    put_word(out, place, form.counted())?;
-    put_word(out, place, form.kind())?;
-    put_body(out, place, call)
+    let count = form.counted().to_le_bytes();
+    let kind = u16::from(form).to_le_bytes();
+    match *call {
+        Call::Load { station, kg } | Call::Unload { station, kg } => put_all(
+            out,
+            place,
+            &[&count, &kind, &station.to_le_bytes(), &kg.to_le_bytes()],
+        ),
+        Call::Shift { from, to, kg } => put_all(
+            out,
+            place,
+            &[
+                &count,
+                &kind,
+                &from.to_le_bytes(),
+                &to.to_le_bytes(),
+                &kg.to_le_bytes(),
+            ],
+        ),
+        Call::Change { station, kg } => put_all(
+            out,
+            place,
+            &[&count, &kind, &station.to_le_bytes(), &kg.to_le_bytes()],
+        ),
+    }
 }
 
 // Puts a whole record, or leaves the place as it was.
@@ -94,14 +92,12 @@ fn put_call(out: &mut [u8], place: &mut Place, call: &Call) -> Result<(), Record
         (λ _. Finished out.old place.old.at call.now out.new place.new.at)
         (λ f. Refused out.old place.old.at call.now f out.new place.new.at) }
 {
-    let was = place.at;
     let mut mark = Mark {
+        back_to: Some(place.at),
         place,
-        was,
-        finished: false,
     };
     put_fields(out, mark.place, call)?;
-    mark.finished = true;
+    mark.back_to = None;
     Ok(())
 }
 
@@ -130,17 +126,13 @@ impl<'a> Writer<'a> {
             (λ f. Refused self.old.out.now self.old.place.at call.now f self.new.out.now self.new.place.at) }
         ensures lender { self.new.out.ghost_name ≡ self.old.out.ghost_name }
     {
-        let mut place = self.place;
-        let done = put_call(self.out, &mut place, call);
-        self.place = place;
-        done
+        put_call(self.out, &mut self.place, call)
     }
 
     // How many bytes the finished records take.
     pub fn written(&self) -> usize
         ensures { result ≡ self.now.place.at }
     {
-        let finished = self.place;
-        finished.at
+        self.place.at
     }
 }

@@ -5,5 +5,5 @@ use Rattle.records.proofs.round_trip.echo.Goals as goal
 pub returns : goal.returns
 returns c =
     let d = c.in_ok-write_front.ensures in
-    let e = c.read.ensures.exactly.complete _ _ (stands_written c.in_width.ensures d) in
-    rw e (refl, d)
+    let e = c.read.ensures.exactly.complete _ _ (stands_written d.0 d.1) in
+    rw e (refl, d.1)
