@@ -1,20 +1,9 @@
--- The first entry that fails a test: one step of a search, and what an answer says.
-use Rattle.std.proofs.Common.{◌≡◌, ℕ, zero, suc, ◌+◌, ◌<◌, Bool, true, false, cond, List, [], ◌∷◌, length, get_or, drop, Some, None, Option, sym, refl, ap, ◌∙◌, add-one, arith}
+-- The first entry that fails a test, and what an answer says.
+use Rattle.std.proofs.Common.{◌≡◌, ℕ, zero, suc, ◌+◌, ◌<◌, Bool, true, false, cond, List, [], ◌∷◌, length, get_or, drop, Some, None, Option, MatchOption, sym, refl, ap, ◌∙◌, add-zero, zero-add, add-one, arith}
+use Rattle.std.specs.List.{AllWithin, HoldsAt}
 use Rattle.std.proofs.lemmas.List.{drop_more}
 use Rattle.std.proofs.lemmas.Bool.{cond-true, cond-false}
 use Rattle.book.specs.Refusals.{first_failing, First, NamesFirst}
-
-module _ {X : Type 0} (test : X → Bool) (xs : List X) (i : ℕ) (d : X) (below : i < length xs) where
-  here : first_failing test i (drop i xs) ≡ cond (test (get_or xs i d)) (first_failing test (i + 1) (drop (i + 1) xs)) (Some i)
-  here = ap (first_failing test i) (drop_more xs i d below) ∙ ap (λ (n : ℕ). cond (test (get_or xs i d)) (first_failing test n (drop (i + 1) xs)) (Some i)) (sym (add-one i))
-
-  -- an entry x that was read there, and what its test said
-  module _ (x : X) (is : x ≡ get_or xs i d) (so_far : first_failing test i (drop i xs) ≡ first_failing test 0 xs) where
-    pub went_on : true ≡ test x → first_failing test (i + 1) (drop (i + 1) xs) ≡ first_failing test 0 xs
-    went_on h = sym (here ∙ cond-true (test (get_or xs i d)) _ _ (ap test (sym is) ∙ sym h)) ∙ so_far
-
-    pub stopped : false ≡ test x → Some i ≡ first_failing test 0 xs
-    stopped h = sym (here ∙ cond-false (test (get_or xs i d)) _ _ (ap test (sym is) ∙ sym h)) ∙ so_far
 
 -- none fails: each passes
 pub all_pass : {X : Type 0} (test : X → Bool) (n : ℕ) (xs : List X) → first_failing test n xs ≡ None → (i : ℕ) (d : X) → i < length xs → test (get_or xs i d) ≡ true
@@ -61,6 +50,18 @@ says test xs (Some k) e =
     let f = found test 0 xs k e in
     let p : f.at ≡ k = omega (arith, f.place) in
     (omega (arith, f.inside), (λ d. ap (λ (j : ℕ). test (get_or xs j d)) (sym p) ∙ f.out d), (λ i d l. f.before i d (omega arith)))
+
+-- the only answer that means that
+counted : {X : Type 0} (test : X → Bool) (n : ℕ) (xs : List X) (k : ℕ) → k < length xs → ((d : X) → test (get_or xs k d) ≡ false) → ((i : ℕ) (d : X) → i < k → test (get_or xs i d) ≡ true) → first_failing test n xs ≡ Some (n + k)
+counted test n [] k l out before = absurd (omega arith)
+counted test n (x ∷ xs) zero l out before = cond-false (test x) _ _ (out x) ∙ ap Some (sym (add-zero n))
+counted test n (x ∷ xs) (suc k) l out before =
+    cond-true (test x) _ _ (before 0 x (omega arith)) ∙ counted test (suc n) xs k (omega arith) out (λ i d m. before (suc i) d (omega arith)) ∙ ap Some (omega arith)
+
+pub is_first : {X : Type 0} (test : X → Bool) (xs : List X) (o : Option ℕ) → MatchOption o (AllWithin (λ x. test x ≡ true) xs 0 (length xs)) (λ i. (i < length xs) × HoldsAt (λ x. test x ≡ false) xs i × AllWithin (λ x. test x ≡ true) xs 0 i) → o ≡ first_failing test 0 xs
+is_first test [] None each = refl
+is_first test (x ∷ xs) None each = sym (none_fails test 0 (x ∷ xs) x (λ i l. each i x (omega arith) l))
+is_first test xs (Some k) found = sym (counted test 0 xs k found.0 found.1 (λ i d l. found.2 i d (omega arith) l) ∙ ap Some (zero-add k))
 
 pub names_first : {X : Type 0} (test : X → Bool) (xs : List X) → NamesFirst test xs
 names_first test xs = says test xs (first_failing test 0 xs) refl

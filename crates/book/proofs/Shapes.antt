@@ -1,5 +1,5 @@
 -- What the tests of a polygon mean.
-use Rattle.std.proofs.Common.{◌≡◌, ℕ, ◌<◌, Bool, true, false, ◌&&◌, eqb, leb, List, length, ℤ, pos, ◌≤ℤ◌, ◌<ℤ◌, is_some, Some, None, Err, Decides, Option, Result, sym, refl, ap, ◌∙◌, subst, arith, MatchResult}
+use Rattle.std.proofs.Common.{◌≡◌, ℕ, ◌<◌, Bool, true, false, ◌&&◌, eqb, leb, List, length, ℤ, pos, ◌≤ℤ◌, ◌<ℤ◌, Some, None, Ok, Decides, Option, Result, sym, refl, ap, ◌∙◌, subst, arith, MatchResult}
 use lib.Signed.{lt_z, le_z}
 use Rattle.std.proofs.lemmas.Int.{ints}
 use Rattle.std.proofs.lemmas.Bool.{and_parts, and_from, leb-true, le-leb, eqb-true, eqb-false, cond-true, cond-false}
@@ -55,10 +55,6 @@ convex_means vs =
 
 -- a list of refusals is empty where each of them is
 
-pub none_from_some : (o : Option BookFault) → is_some o ≡ false → o ≡ None
-none_from_some None e = refl
-none_from_some (Some f) e = let z : ◌≡◌ {A = ℕ} 0 1 = cc in absurd (omega arith)
-
 pub neither : (a b : Option BookFault) → option_or a b ≡ None → (a ≡ None) × (b ≡ None)
 neither None b e = (refl, e)
 neither (Some f) b e = let z : ◌≡◌ {A = ℕ} 0 1 = cc in absurd (omega arith)
@@ -107,7 +103,7 @@ says vs (Some f) h = λ s. let n = no_refusal vs s in let z : ◌≡◌ {A = ℕ
 pub exactly_envelopes : (vs : List Vertex) {r : Result (Unit {0}) BookFault} → r ≡ answer (vertex_refusal vs) tt → Says vs r
 exactly_envelopes vs {r} e = subst (Says vs) (sym e) (says vs (vertex_refusal vs) refl)
 
--- a refusal is the same whatever was to be answered else
-pub same_refusal : {X Y : Type 0} (o : Option BookFault) (x : X) (y : Y) (f : BookFault) → Err f ≡ answer o x → Err f ≡ answer o y
-same_refusal None x y f e = let z : ◌≡◌ {A = ℕ} 0 1 = cc in absurd (omega arith)
-same_refusal (Some g) x y f e = let z : f ≡ g = cc in ap Err z
+-- an answer that is no refusal
+pub answered : {X : Type 0} (o : Option BookFault) (x y : X) → Ok y ≡ answer o x → o ≡ None
+answered None x y e = refl
+answered (Some f) x y e = let z : ◌≡◌ {A = ℕ} 0 1 = cc in absurd (omega arith)

@@ -1,5 +1,5 @@
 -- The envelope as a polygon of mass and moment, its vertices in order round it.
-use Rattle.std.specs.Prelude.{◌≡◌, ℕ, zero, suc, ◌+◌, ◌<◌, Bool, true, cond, ◌&&◌, List, length, ℤ, pos, ◌-ℤ◌, ◌*ℤ◌, ◌≤ℤ◌, ◌<ℤ◌, ◌==◌, ◌≢◌, int_le, int_lt, slice_index_or}
+use Rattle.std.specs.Prelude.{◌≡◌, ℕ, zero, suc, ◌+◌, ◌<◌, ◌≤◌, Bool, true, cond, ◌&&◌, List, length, ℤ, pos, neg_ℤ, ◌-ℤ◌, ◌*ℤ◌, ◌≤ℤ◌, ◌<ℤ◌, ◌==◌, ◌≢◌, int_le, int_lt, slice_index_or}
 use Rattle.book.specs.declared.vertex.Vertex.{Vertex}
 use Rattle.book.specs.Fields.{vertex_in}
 
@@ -48,3 +48,17 @@ Within vs p = (i : ℕ) → i < length vs → pos 0 ≤ℤ edge vs i p
 -- every vertex has its fields in their limits
 abbrev pub AllIn : List Vertex → Type 0
 AllIn vs = (i : ℕ) → i < length vs → vertex_in (corner vs i) ≡ true
+
+-- a mass of 0 to a million, and a moment of at most ten thousand million either way
+pub record InLimits (v : Vertex) : Type 0 where
+  pub mass_low : pos 0 ≤ℤ v.mass
+  pub mass_high : v.mass ≤ℤ pos 1000000
+  pub moment_low : neg_ℤ (pos 10000000000) ≤ℤ v.moment
+  pub moment_high : v.moment ≤ℤ pos 10000000000
+
+-- 3 to 16 vertices in their limits, and of each edge every other vertex lies strictly left
+pub record IsEnvelope (vs : List Vertex) : Type 0 where
+  pub least : 3 ≤ length vs
+  pub most : length vs ≤ 16
+  pub limits : (i : ℕ) → i < length vs → InLimits (corner vs i)
+  pub convex : Convex vs

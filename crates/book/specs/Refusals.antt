@@ -1,5 +1,7 @@
 -- Which refusal a book earns: the first in the order of the checks, by its first entry at fault.
 use Rattle.std.specs.Prelude.{◌≡◌, ℕ, suc, ◌<◌, Bool, true, false, cond, ◌&&◌, List, [], ◌∷◌, length, Some, None, Ok, Err, Option, Result, nat_le, slice_index_or}
+use Rattle.std.specs.Borrow.{Bor}
+use Rattle.std.specs.Fn.{Shared, Once, FnReturnsAt, FnOnceReturns}
 use Rattle.std.specs.Option.{option_map, option_or}
 use Rattle.book.specs.declared.basic.Basic.{Basic}
 use Rattle.book.specs.declared.fault.BookFault.{BookFault}
@@ -25,6 +27,13 @@ first_failing test n (x ∷ xs) = cond (test x) (first_failing test (suc n) xs) 
 abbrev pub First : {X : Type 0} → (X → Bool) → List X → Option ℕ → Type 0
 First {X} test xs None = (i : ℕ) (d : X) → i < length xs → test (slice_index_or xs i d) ≡ true
 First {X} test xs (Some k) = (k < length xs) × ((d : X) → test (slice_index_or xs k d) ≡ false) × ((i : ℕ) (d : X) → i < k → test (slice_index_or xs i d) ≡ true)
+
+-- a closure answers at each entry what the test says, and makes of each place the fault that names it
+abbrev pub Computes : {F X : Type 0} → Shared F (Bor X × Unit {0}) Bool → F → (X → Bool) → Type 0
+Computes {F} {X} g f test = (x : X) (r : Bool) → FnReturnsAt g f x r → r ≡ test x
+
+abbrev pub Names : {F : Type 0} → Once F (ℕ × Unit {0}) BookFault → F → (ℕ → BookFault) → Type 0
+Names g f named = (k : ℕ) (e : BookFault) → FnOnceReturns g f (k, tt) e → e ≡ named k
 
 abbrev pub NamesFirst : {X : Type 0} → (X → Bool) → List X → Type 0
 NamesFirst test xs = First test xs (first_failing test 0 xs)

@@ -1,4 +1,4 @@
-ghost use Rattle.std.specs.Prelude.{◌≡◌, ◌*ℤ◌, ◌≤ℤ◌, Decides, int_le};
+ghost use Rattle.std.specs.Prelude.{◌≡◌, ◌≤ℤ◌, Decides, int_le};
 ghost use Rattle.book.specs.Fields.{basic_in};
 ghost use Rattle.book.specs.Refusals.{answer, basic_refusal};
 ghost use Rattle.book.specs.Sums.{tip_kept, TipKept};
@@ -10,7 +10,7 @@ use crate::turn::product;
 
 // The empty aircraft: its mass and moment, the arm behind which it tips on its tail, and how many
 // kilograms may be changed after release.
-#[derive(Clone, Copy)]
+#[derive(Clone, Copy, Debug, PartialEq, Eq)]
 pub struct Basic {
     pub mass: u32,
     pub moment: i64,
@@ -18,19 +18,12 @@ pub struct Basic {
     pub allowance: u32,
 }
 
-// The largest moment that these totals may have about the tip arm.
-fn tip_moment(basic: &Basic, totals: &Totals) -> i128
-    ensures { result ≡ basic.now.tip_arm *ℤ totals.now.mass }
+// Whether a moment is at most this one: by itself, so that a wrong comparison fails at this clause.
+fn at_most(moment: i64, most: i128) -> bool
+    ensures value { result ≡ int_le moment most }
+    ensures means { Decides result (moment ≤ℤ most) }
 {
-    product(basic.tip_arm as i128, totals.mass as i128)
-}
-
-// Whether the moment is at most this one.
-fn at_most(totals: &Totals, most: i128) -> bool
-    ensures value { result ≡ int_le totals.now.moment most }
-    ensures means { Decides result (totals.now.moment ≤ℤ most) }
-{
-    totals.moment as i128 <= most
+    i128::from(moment) <= most
 }
 
 impl Basic {
@@ -45,12 +38,12 @@ impl Basic {
         }
     }
 
+    // Whether every field lies in its limits.
     fn in_limits(&self) -> bool
         ensures { result ≡ basic_in self.now }
     {
         self.mass <= 500_000
-            && self.moment >= -4_000_000_000
-            && self.moment <= 4_000_000_000
+            && (-4_000_000_000..=4_000_000_000).contains(&self.moment)
             && arm_in(self.tip_arm)
             && self.allowance <= 100_000
     }
@@ -60,6 +53,9 @@ impl Basic {
         ensures value { result ≡ tip_kept self.now totals }
         ensures means { Decides result (TipKept self.now totals) }
     {
-        at_most(&totals, tip_moment(self, &totals))
+        at_most(
+            totals.moment,
+            product(i128::from(self.tip_arm), i128::from(totals.mass)),
+        )
     }
 }

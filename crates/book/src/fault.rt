@@ -8,7 +8,7 @@ use records::RecordFault;
 const LAYER: u8 = 2;
 
 // Why a book is refused, or the fault of a record that came from below.
-#[derive(Clone, Copy)]
+#[derive(Clone, Copy, Debug, PartialEq, Eq)]
 pub enum BookFault {
     Record(RecordFault),
     // No station, or more than 256.
@@ -33,7 +33,7 @@ pub enum BookFault {
     NotConvex,
 }
 
-// A record's fault goes up whole.
+// A record's fault goes up whole. By hand, since the contracts above cite `from_gives`.
 impl From<RecordFault> for BookFault {
     ghost from_gives = { λ f r. r ≡ OfRecord f };
 

@@ -4,33 +4,29 @@ ghost use Rattle.book.specs.Refusals.{answer, frame_refusal, NamesFirst};
 
 use crate::fault::BookFault;
 use crate::ranges::arm_in;
-use crate::rule::{Rule, first_failing};
+use crate::rule::check_each;
 
 // From which side the deck bends a frame.
-#[derive(Clone, Copy)]
+#[derive(Clone, Copy, Debug, PartialEq, Eq)]
 pub enum Side {
     Fore,
     Aft,
 }
 
 // A cross-section at an arm, and the bending in kilogram-centimetres that it bears from one side.
-#[derive(Clone, Copy)]
+#[derive(Clone, Copy, Debug, PartialEq, Eq)]
 pub struct Frame {
     pub arm: i32,
     pub side: Side,
     pub limit: u64,
 }
 
-#[derive(Clone, Copy)]
-struct FrameLimits;
-
-impl Rule for FrameLimits {
-    type Entry = Frame;
-
-    ghost kept = { λ _ f. frame_in f };
-
-    fn keeps(&self, entry: &Frame) -> bool {
-        arm_in(entry.arm) && entry.limit <= 1_000_000_000_000
+impl Frame {
+    // Whether its arm and its limit lie in their limits.
+    fn in_limits(&self) -> bool
+        ensures { result ≡ frame_in self.now }
+    {
+        arm_in(self.arm) && self.limit <= 1_000_000_000_000
     }
 }
 
@@ -42,8 +38,7 @@ pub fn check_frames(frames: &[Frame]) -> Result<(), BookFault>
     if frames.len() > 32 {
         return Err(BookFault::FrameCount);
     }
-    match first_failing(&FrameLimits, frames) {
-        Some(frame) => Err(BookFault::FrameField { frame }),
-        None => Ok(()),
-    }
+    check_each(frames, Frame::in_limits, |frame| {
+        BookFault::FrameField { frame }
+    })
 }

@@ -3,6 +3,7 @@
 #![tactic(auto)]
 
 mod basic;
+mod corners;
 mod envelope;
 mod fault;
 mod frame;

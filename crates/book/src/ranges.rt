@@ -5,15 +5,12 @@ ghost use Rattle.book.specs.Fields.{arm_in, limit_in};
 pub(crate) fn arm_in(arm: i32) -> bool
     ensures { result ≡ arm_in arm }
 {
-    arm >= -8_000 && arm <= 8_000
+    (-8_000..=8_000).contains(&arm)
 }
 
 // Whether a running-load limit is absent or at most 10,000,000 kg.
 pub(crate) fn limit_in(limit: Option<u32>) -> bool
     ensures { result ≡ limit_in limit }
 {
-    match limit {
-        Some(kg) => kg <= 10_000_000,
-        None => true,
-    }
+    limit.is_none_or(|kg| kg <= 10_000_000)
 }

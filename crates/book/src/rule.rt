@@ -1,25 +1,21 @@
-ghost use Rattle.std.specs.Prelude.{◌≡◌, Bool};
-ghost use Rattle.book.specs.Refusals.{first_failing, NamesFirst};
+ghost use Rattle.std.specs.Prelude.{◌≡◌, ℕ, Bool};
+ghost use Rattle.std.specs.Option.{option_map};
+ghost use Rattle.book.specs.Refusals.{answer, first_failing, Computes, Names, NamesFirst};
+ghost use Rattle.book.specs.declared.fault.BookFault.{BookFault};
 
-// A rule that each entry of a list has to keep.
-pub(crate) trait Rule {
-    type Entry;
+use crate::fault::BookFault;
 
-    ghost kept: { Self → Self.Entry → Bool };
-
-    fn keeps(&self, entry: &Self::Entry) -> bool
-        ensures { result ≡ kept self.now entry.now };
-}
-
-// The first entry that does not keep the rule.
-pub(crate) fn first_failing<R: Rule>(rule: &R, entries: &[R::Entry]) -> Option<usize>
-    ensures value { result ≡ first_failing (R.Rule.kept rule.now) 0 entries.now }
-    ensures first { NamesFirst (R.Rule.kept rule.now) entries.now }
+// Each entry of the list passes the test, or the first that does not is named in the fault.
+pub(crate) fn check_each<T, K: Fn(&T) -> bool, N: FnOnce(usize) -> BookFault>(
+    entries: &[T],
+    keeps: K,
+    fault: N,
+) -> Result<(), BookFault>
+    requires tests { K.IsAlwaysCallable keeps }
+    requires names { N.IsAlwaysCallable fault }
+    ensures value { (test : T → Bool) (named : ℕ → BookFault) → Computes K.Fn keeps test → Names N.FnOnce fault named → result ≡ answer (option_map named (first_failing test 0 entries.now)) tt }
+    ensures first { (test : T → Bool) → NamesFirst test entries.now }
 {
-    for (i, entry) in entries.iter().enumerate() {
-        if !rule.keeps(entry) {
-            return Some(i);
-        }
-    }
-    None
+    let failing = entries.iter().position(|entry| !keeps(entry));
+    failing.map_or(Ok(()), |at| Err(fault(at)))
 }

@@ -4,24 +4,17 @@ ghost use Rattle.book.specs.Refusals.{answer, count_refusal, station_refusal, Na
 
 use crate::fault::BookFault;
 use crate::ranges::{arm_in, limit_in};
-use crate::rule::{Rule, first_failing};
+use crate::rule::check_each;
 
 // A place on the deck: where it lies, what its floor bears, what the deck up to it and from it on may
 // carry (a station may have no such limit), and the mass that stands there now. Kilograms and centimetres.
-#[derive(Clone, Copy)]
+#[derive(Clone, Copy, Debug, PartialEq, Eq)]
 pub struct Station {
     pub arm: i32,
     pub floor: u32,
     pub fore: Option<u32>,
     pub aft: Option<u32>,
     pub mass: u32,
-}
-
-// A mass times an arm. Neither can be so large that the product leaves its type.
-fn times(mass: u32, arm: i32) -> i64
-    ensures { result ≡ pos mass *ℤ arm }
-{
-    mass as i64 * arm as i64
 }
 
 impl Station {
@@ -37,24 +30,11 @@ impl Station {
             && self.mass <= 30_000
     }
 
-    // Its mass times its arm, whatever they are.
+    // Its mass times its arm, whatever they are: neither can be so large that the product leaves its type.
     pub fn moment(&self) -> i64
         ensures { result ≡ pos self.now.mass *ℤ self.now.arm }
     {
-        times(self.mass, self.arm)
-    }
-}
-
-#[derive(Clone, Copy)]
-struct StationLimits;
-
-impl Rule for StationLimits {
-    type Entry = Station;
-
-    ghost kept = { λ _ s. station_in s };
-
-    fn keeps(&self, entry: &Station) -> bool {
-        entry.in_limits()
+        i64::from(self.mass) * i64::from(self.arm)
     }
 }
 
@@ -62,7 +42,7 @@ impl Rule for StationLimits {
 pub fn check_count(stations: &[Station]) -> Result<(), BookFault>
     ensures { result ≡ answer (count_refusal stations.now) tt }
 {
-    if stations.is_empty() || stations.len() > 256 {
+    if !(1..=256).contains(&stations.len()) {
         return Err(BookFault::StationCount);
     }
     Ok(())
@@ -73,8 +53,7 @@ pub fn check_stations(stations: &[Station]) -> Result<(), BookFault>
     ensures value { result ≡ answer (station_refusal stations.now) tt }
     ensures first { NamesFirst station_in stations.now }
 {
-    match first_failing(&StationLimits, stations) {
-        Some(station) => Err(BookFault::StationField { station }),
-        None => Ok(()),
-    }
+    check_each(stations, Station::in_limits, |station| {
+        BookFault::StationField { station }
+    })
 }

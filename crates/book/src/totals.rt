@@ -6,8 +6,9 @@ use crate::basic::Basic;
 use crate::fault::BookFault;
 use crate::station::{Station, check_count, check_stations};
 
-// Mass and moment of the basic record and all stations together.
-#[derive(Clone, Copy)]
+// Mass and moment of the basic record and all stations together: a sum over records. Not a `Vertex`, which is
+// any point of the plane, so that neither is passed for the other.
+#[derive(Clone, Copy, Debug, PartialEq, Eq)]
 pub struct Totals {
     pub mass: i64,
     pub moment: i64,
@@ -22,15 +23,16 @@ fn check_records(basic: &Basic, stations: &[Station]) -> Result<(), BookFault>
     basic.check()
 }
 
-// The sums over records that are in their limits, so that nothing overflows.
+// The sums over records that are in their limits, so that nothing overflows. One `for` for both: the
+// closure of a `fold` would owe at each station that neither sum overflows, which only the loop's invariant knows.
 fn summed(basic: &Basic, stations: &[Station]) -> Totals
     requires { book_refusal basic.now stations.now ≡ None }
     ensures { result ≡ totals_of basic.now stations.now }
 {
-    let mut mass = basic.mass as i64;
+    let mut mass = i64::from(basic.mass);
     let mut moment = basic.moment;
     for station in stations {
-        mass += station.mass as i64;
+        mass += i64::from(station.mass);
         moment += station.moment();
     }
     Totals { mass, moment }
@@ -41,9 +43,7 @@ impl Totals {
     pub fn of(basic: &Basic, stations: &[Station]) -> Result<Totals, BookFault>
         ensures { result ≡ answer (book_refusal basic.now stations.now) (totals_of basic.now stations.now) }
     {
-        match check_records(basic, stations) {
-            Ok(()) => Ok(summed(basic, stations)),
-            Err(fault) => Err(fault),
-        }
+        check_records(basic, stations)?;
+        Ok(summed(basic, stations))
     }
 }

@@ -1,4 +1,4 @@
-ghost use Rattle.std.specs.Prelude.{◌≡◌, ◌^◌, true, ◌*ℤ◌};
+ghost use Rattle.std.specs.Prelude.{◌≡◌, ◌^◌, true, ◌-ℤ◌, ◌*ℤ◌};
 ghost use Rattle.book.specs.Fields.{vertex_in};
 ghost use Rattle.book.specs.Polygons.{turn as turn_of};
 ghost use Rattle.book.specs.Spans.{Span};
@@ -14,15 +14,20 @@ pub(crate) fn product(x: i128, y: i128) -> i128
     x * y
 }
 
+// How far the first number lies past the second: it cannot overflow either.
+fn past(x: i64, y: i64) -> i128
+    ensures value { result ≡ x -ℤ y }
+    ensures small { Span result (2 ^ 66) }
+{
+    i128::from(x) - i128::from(y)
+}
+
 // On which side of the line from `a` to `b` the point lies: above 0 to its left, 0 on it. The ends are
 // in their limits, the point may be any.
 pub(crate) fn turn(a: &Vertex, b: &Vertex, p: &Vertex) -> i128
     requires { (vertex_in a.now ≡ true) × (vertex_in b.now ≡ true) }
     ensures { result ≡ turn_of a.now b.now p.now }
 {
-    let x = (b.mass - a.mass) as i128;
-    let y = p.moment as i128 - a.moment as i128;
-    let z = (b.moment - a.moment) as i128;
-    let w = p.mass as i128 - a.mass as i128;
-    product(x, y) - product(z, w)
+    product(past(b.mass, a.mass), past(p.moment, a.moment))
+        - product(past(b.moment, a.moment), past(p.mass, a.mass))
 }

@@ -3,29 +3,22 @@ ghost use Rattle.book.specs.Fields.{zone_in};
 ghost use Rattle.book.specs.Refusals.{answer, zone_refusal, NamesFirst};
 
 use crate::fault::BookFault;
-use crate::rule::{Rule, first_failing};
+use crate::rule::check_each;
 
 // The stations from `from` up to `to` - 1, and what they may carry together.
-#[derive(Clone, Copy)]
+#[derive(Clone, Copy, Debug, PartialEq, Eq)]
 pub struct Zone {
     pub from: usize,
     pub to: usize,
     pub limit: u32,
 }
 
-// What a zone has to keep on a deck of so many stations.
-#[derive(Clone, Copy)]
-struct ZoneLimits {
-    stations: usize,
-}
-
-impl Rule for ZoneLimits {
-    type Entry = Zone;
-
-    ghost kept = { λ deck z. zone_in deck.stations z };
-
-    fn keeps(&self, entry: &Zone) -> bool {
-        entry.from < entry.to && entry.to <= self.stations && entry.limit <= 10_000_000
+impl Zone {
+    // Whether it has a station, ends on a deck of so many stations, and has its limit in range.
+    fn in_limits(&self, stations: usize) -> bool
+        ensures { result ≡ zone_in stations self.now }
+    {
+        self.from < self.to && self.to <= stations && self.limit <= 10_000_000
     }
 }
 
@@ -37,8 +30,9 @@ pub fn check_zones(zones: &[Zone], stations: usize) -> Result<(), BookFault>
     if zones.len() > 32 {
         return Err(BookFault::ZoneCount);
     }
-    match first_failing(&ZoneLimits { stations }, zones) {
-        Some(zone) => Err(BookFault::ZoneField { zone }),
-        None => Ok(()),
-    }
+    check_each(
+        zones,
+        |zone| zone.in_limits(stations),
+        |zone| BookFault::ZoneField { zone },
+    )
 }
