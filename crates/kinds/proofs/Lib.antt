@@ -1,3 +1,5 @@
 pub mod Asking
 pub mod Folding
+pub mod Ints
+pub mod Parts
 pub mod Rows

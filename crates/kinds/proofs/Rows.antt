@@ -34,12 +34,10 @@ placed_by margin P s ss head tail (x ∷ f) t b q =
     subst P e (tail f t b r)
 
 above_weak : (a b : ℤ) (o : Option ℤ) → a ≤ℤ b → Above b o → Above a o
-above_weak a b None h k = tt
-above_weak a b (Some v) h k = omega (arith, ints)
+above_weak a b o h k = grind (arith, ints)
 
 above_off : (m t : ℤ) (o : Option ℤ) → Above m o → Above (m -ℤ t) (taken o t)
-above_off m t None k = tt
-above_off m t (Some v) k = omega (arith, ints)
+above_off m t o k = grind (arith, ints)
 
 -- the least of a row is the lesser of its first station's margin and the least of the others
 least_at : (margin : MarginAt) (s : Station) (ss : List Station) (p o : Option ℤ) → margin [] s ss ≡ p → IsLeast (λ f. margin (s ∷ f)) ss o → IsLeast margin (s ∷ ss) (least_of p o)
@@ -70,12 +68,10 @@ none_of_none margin [] t b q = cc
 none_of_none margin (x ∷ f) t b q = cc
 
 left_more : (o : Option ℕ) (a b c : ℕ) → left_of o ((a + b) + c) ≡ taken (left_of o (b + c)) (pos a)
-left_more None a b c = refl
-left_more (Some n) a b c = ap Some (omega (arith, ints))
+left_more o a b c = grind (arith, ints)
 
 left_both : (o : Option ℕ) (a b : ℕ) → taken (left_of o a) (pos b) ≡ left_of o (a + b)
-left_both None a b = refl
-left_both (Some n) a b = ap Some (omega (arith, ints))
+left_both o a b = grind (arith, ints)
 
 -- the first station over its floor is this one, or the first of the others
 first_after : (n : ℕ) (s : Station) (ss : List Station) (o : Option Over) → ltb s.floor s.mass ≡ false → IsFirstOver (suc n) ss o → IsFirstOver n (s ∷ ss) o

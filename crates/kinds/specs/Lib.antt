@@ -2,10 +2,8 @@ pub mod Direct
 pub mod Floors
 pub mod Folds
 pub mod Houses
+pub mod Laws
 pub mod Loads
 pub mod Meaning
 pub mod Moments
 pub mod Tests
-pub mod Parts
-pub mod Ints
-pub mod Lowering

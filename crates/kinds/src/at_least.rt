@@ -1,19 +1,12 @@
-ghost use Rattle.std.specs.Prelude.{◌≡◌, int_le};
+ghost use Rattle.std.specs.Prelude.{int_le};
 
 use crate::mass_moment::MassMoment;
 use crate::test_of::Test;
 
 // On mass and moment: the mass is at least this.
-#[derive(Clone, Copy)]
+#[derive(Clone, Copy, Debug, PartialEq, Eq)]
 pub struct AtLeast {
     pub mass: i64,
-}
-
-// Whether the summary's mass is at least what is asked.
-fn reaches(value: MassMoment, asked: &AtLeast) -> bool
-    ensures { result ≡ int_le asked.now.mass value.mass }
-{
-    asked.mass <= value.mass
 }
 
 impl Test for AtLeast {
@@ -24,6 +17,6 @@ impl Test for AtLeast {
     ghost meets = { λ t x. int_le t.mass x.mass };
 
     fn met(&self, value: MassMoment) -> bool {
-        reaches(value, self)
+        self.mass <= value.mass
     }
 }

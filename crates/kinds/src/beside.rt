@@ -5,13 +5,14 @@ use crate::kind::Kind;
 use book::Station;
 
 // Two kinds side by side, each by its own rule.
-#[derive(Clone, Copy)]
+#[derive(Clone, Copy, Debug, PartialEq, Eq)]
 pub struct Beside<X, Y> {
     pub one: X,
     pub other: Y,
 }
 
-// Two values of one kind joined, the forward one first.
+// Two values of one kind joined, the forward one first. By itself, with a promise of its own: a wrong joining is
+// refused here, and not in the proof of `join`.
 fn joined<K: Kind>(fore: K, aft: K) -> K
     ensures { (j k : ℕ) → K.Kind.stands fore j → K.Kind.stands aft k → j + k ≤ 256 → (K.Kind.reading result ≡ K.Kind.joined (K.Kind.reading fore) (K.Kind.reading aft)) × K.Kind.stands result (j + k) }
 {

@@ -1,4 +1,3 @@
-ghost use Rattle.std.specs.Prelude.{◌≡◌};
 ghost use Rattle.kinds.specs.Floors.{no_floor, one_floor, both_floors};
 ghost use Rattle.std.proofs.Common.{rules};
 
@@ -6,40 +5,16 @@ use crate::kind::Kind;
 use book::Station;
 
 // A station over its floor limit, and by how much.
-#[derive(Clone, Copy)]
+#[derive(Clone, Copy, Debug, PartialEq, Eq)]
 pub struct Over {
     pub station: usize,
     pub excess: u32,
 }
 
 // The first station over its floor limit, if there is one.
-#[derive(Clone, Copy)]
+#[derive(Clone, Copy, Debug, Default, PartialEq, Eq)]
 pub struct FloorRecord {
     pub first: Option<Over>,
-}
-
-// One station's record: it is over where its mass is above its floor limit.
-pub(crate) fn of_station(number: usize, given: &Station) -> FloorRecord
-    ensures { result ≡ one_floor number given.now }
-{
-    let mut first = None;
-    if given.mass > given.floor {
-        first = Some(Over {
-            station: number,
-            excess: given.mass - given.floor,
-        });
-    }
-    FloorRecord { first }
-}
-
-// The forward half's, if it has one.
-pub(crate) fn both(fore: FloorRecord, aft: FloorRecord) -> FloorRecord
-    ensures { result ≡ both_floors fore aft }
-{
-    match fore.first {
-        Some(_) => fore,
-        None => aft,
-    }
 }
 
 impl Kind for FloorRecord {
@@ -62,14 +37,23 @@ impl Kind for FloorRecord {
     ghost assoc = { Prim.search rules };
 
     fn empty() -> FloorRecord {
-        FloorRecord { first: None }
+        FloorRecord::default()
     }
 
+    // A station is over where its mass is above its floor limit.
     fn station(number: usize, given: &Station) -> FloorRecord {
-        of_station(number, given)
+        FloorRecord {
+            first: (given.mass > given.floor).then(|| Over {
+                station: number,
+                excess: given.mass - given.floor,
+            }),
+        }
     }
 
+    // The forward half's, if it has one.
     fn join(self, aft: FloorRecord) -> FloorRecord {
-        both(self, aft)
+        FloorRecord {
+            first: self.first.or(aft.first),
+        }
     }
 }

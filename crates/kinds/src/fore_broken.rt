@@ -4,7 +4,7 @@ use crate::house::House;
 use crate::test_of::Test;
 
 // On the house summary: a fore margin is below 0.
-#[derive(Clone, Copy)]
+#[derive(Clone, Copy, Debug, PartialEq, Eq)]
 pub struct ForeBroken;
 
 impl Test for ForeBroken {
@@ -15,9 +15,6 @@ impl Test for ForeBroken {
     ghost meets = { λ _ x. below_zero x.load.fore };
 
     fn met(&self, value: House) -> bool {
-        match value.load.fore {
-            Some(margin) => margin < 0,
-            None => false,
-        }
+        value.load.fore.is_some_and(|margin| margin < 0)
     }
 }

@@ -1,42 +1,31 @@
 ghost use Rattle.std.specs.Prelude.{◌≡◌};
 ghost use Rattle.kinds.specs.Houses.{no_house, one_house, both_houses, held_houses, Sound};
-ghost use Rattle.kinds.specs.Parts.{house_right, house_assoc};
+ghost use Rattle.kinds.specs.Laws.{house_right, house_assoc};
 ghost use Rattle.std.proofs.Common.{rules};
 
 use crate::floor_record::FloorRecord;
 use crate::kind::Kind;
 use crate::mass_moment::MassMoment;
 use crate::running_load::RunningLoad;
-use crate::{floor_record, mass_moment, running_load};
+use crate::{mass_moment, running_load};
 use book::Station;
 
 // The house summary: one of each.
-#[derive(Clone, Copy)]
+#[derive(Clone, Copy, Debug, Default, PartialEq, Eq)]
 pub struct House {
     pub moments: MassMoment,
     pub load: RunningLoad,
     pub floors: FloorRecord,
 }
 
-// One station's summary, whatever its record holds.
-fn of_station(number: usize, given: &Station) -> House
-    ensures { result ≡ one_house number given.now }
-{
-    House {
-        moments: mass_moment::of_station(given),
-        load: running_load::of_station(given),
-        floors: floor_record::of_station(number, given),
-    }
-}
-
-// Each part joined by its own rule.
+// Each part joined by its own rule, whatever the two stand for.
 fn both(fore: House, aft: House) -> House
     ensures { result ≡ held_houses fore aft }
 {
     House {
         moments: mass_moment::both(fore.moments, aft.moments),
         load: running_load::both(fore.load, aft.load),
-        floors: floor_record::both(fore.floors, aft.floors),
+        floors: fore.floors.join(aft.floors),
     }
 }
 
@@ -60,15 +49,15 @@ impl Kind for House {
     ghost assoc = { λ x y z. house_assoc x y z };
 
     fn empty() -> House {
-        House {
-            moments: MassMoment::empty(),
-            load: RunningLoad::empty(),
-            floors: FloorRecord::empty(),
-        }
+        House::default()
     }
 
     fn station(number: usize, given: &Station) -> House {
-        of_station(number, given)
+        House {
+            moments: MassMoment::station(number, given),
+            load: RunningLoad::station(number, given),
+            floors: FloorRecord::station(number, given),
+        }
     }
 
     fn join(self, aft: House) -> House {

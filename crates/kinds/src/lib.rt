@@ -8,7 +8,6 @@ mod deck;
 mod floor_record;
 mod fore_broken;
 mod house;
-mod joining;
 mod judged;
 mod kind;
 mod margins;

@@ -1,29 +1,21 @@
 ghost use Rattle.std.specs.Prelude.{◌≡◌};
 ghost use Rattle.kinds.specs.Moments.{no_moment, one_moment, both_moments, held_moments, Within};
-ghost use Rattle.kinds.specs.Parts.{moments_assoc};
+ghost use Rattle.std.proofs.Math.IntN.{+ℤ_assoc};
 ghost use Rattle.std.proofs.Common.{rules};
 
 use crate::kind::Kind;
 use book::Station;
 
-// The sum of the masses, and the sum of mass times arm.
-#[derive(Clone, Copy)]
+// The sum of the masses, and the sum of mass times arm. Not a book's `Totals`: the stations alone, without the basic
+// record, so that neither is passed for the other.
+#[derive(Clone, Copy, Debug, Default, PartialEq, Eq)]
 pub struct MassMoment {
     pub mass: i64,
     pub moment: i64,
 }
 
-// One station's mass and moment, whatever its record holds.
-pub(crate) fn of_station(given: &Station) -> MassMoment
-    ensures { result ≡ one_moment given.now }
-{
-    MassMoment {
-        mass: given.mass as i64,
-        moment: given.moment(),
-    }
-}
-
-// Both added up; what would leave 64 bits stays at their end.
+// Both added up; what would leave 64 bits stays at their end. By itself, since it is said of any two values,
+// where `join` promises something only of values that stand for stations.
 pub(crate) fn both(fore: MassMoment, aft: MassMoment) -> MassMoment
     ensures { result ≡ held_moments fore aft }
 {
@@ -50,14 +42,18 @@ impl Kind for MassMoment {
 
     ghost right = { Prim.search rules };
 
-    ghost assoc = { λ x y z. moments_assoc x y z };
+    ghost assoc = { λ x y z. Prim.simp +ℤ_assoc };
 
     fn empty() -> MassMoment {
-        MassMoment { mass: 0, moment: 0 }
+        MassMoment::default()
     }
 
+    #[tactic(auto, using(crate::proofs::Parts::moments_single))]
     fn station(_number: usize, given: &Station) -> MassMoment {
-        of_station(given)
+        MassMoment {
+            mass: i64::from(given.mass),
+            moment: given.moment(),
+        }
     }
 
     fn join(self, aft: MassMoment) -> MassMoment {

@@ -1,6 +1,6 @@
 ghost use Rattle.std.specs.Prelude.{◌≡◌};
 ghost use Rattle.kinds.specs.Loads.{no_load, one_load, both_loads, held_loads, Bounded};
-ghost use Rattle.kinds.specs.Lowering.{loads_assoc};
+ghost use Rattle.kinds.specs.Laws.{loads_assoc};
 ghost use Rattle.std.proofs.Common.{rules};
 
 use crate::kind::Kind;
@@ -8,25 +8,15 @@ use crate::margins::{least, lowered, margin};
 use book::Station;
 
 // The total, the least fore margin and the least aft margin of a range.
-#[derive(Clone, Copy)]
+#[derive(Clone, Copy, Debug, Default, PartialEq, Eq)]
 pub struct RunningLoad {
     pub total: i64,
     pub fore: Option<i64>,
     pub aft: Option<i64>,
 }
 
-// One station's load, whatever its record holds.
-pub(crate) fn of_station(given: &Station) -> RunningLoad
-    ensures { result ≡ one_load given.now }
-{
-    RunningLoad {
-        total: given.mass as i64,
-        fore: margin(given.fore, given.mass),
-        aft: margin(given.aft, given.mass),
-    }
-}
-
-// Each half's total comes off the other half's margin before the margins are compared.
+// Each half's total comes off the other half's margin before the margins are compared. By itself, as for
+// `MassMoment`: it is said of any two values.
 pub(crate) fn both(fore: RunningLoad, aft: RunningLoad) -> RunningLoad
     ensures { result ≡ held_loads fore aft }
 {
@@ -57,15 +47,16 @@ impl Kind for RunningLoad {
     ghost assoc = { λ x y z. loads_assoc x y z };
 
     fn empty() -> RunningLoad {
-        RunningLoad {
-            total: 0,
-            fore: None,
-            aft: None,
-        }
+        RunningLoad::default()
     }
 
+    #[tactic(auto, using(crate::proofs::Parts::loads_single))]
     fn station(_number: usize, given: &Station) -> RunningLoad {
-        of_station(given)
+        RunningLoad {
+            total: i64::from(given.mass),
+            fore: margin(given.fore, given.mass),
+            aft: margin(given.aft, given.mass),
+        }
     }
 
     fn join(self, aft: RunningLoad) -> RunningLoad {

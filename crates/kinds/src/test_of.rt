@@ -1,6 +1,5 @@
-ghost use Rattle.std.specs.Prelude.{◌≡◌, ℕ, ◌≤◌, Bool, true, List};
-ghost use Rattle.book.specs.declared.station.Station.{Station};
-ghost use Rattle.kinds.specs.Folds.{read_at, AllLawful};
+ghost use Rattle.std.specs.Prelude.{◌≡◌, ℕ, ◌≤◌, Bool};
+ghost use Rattle.kinds.specs.Folds.{StaysMet};
 
 use crate::kind::Kind;
 
@@ -15,5 +14,5 @@ pub trait Test {
 
     fn met(&self, value: Self::Of) -> bool
         ensures answers { (k : ℕ) → k ≤ 256 → Self.Of.Kind.stands value k → result ≡ meets self.now (Self.Of.Kind.reading value) }
-        ensures keeps { (m n : ℕ) (xs ys : List Station) → AllLawful xs → AllLawful ys → meets self.now (read_at Self.Of.Kind.none Self.Of.Kind.single Self.Of.Kind.joined m xs) ≡ true → meets self.now (Self.Of.Kind.joined (read_at Self.Of.Kind.none Self.Of.Kind.single Self.Of.Kind.joined m xs) (read_at Self.Of.Kind.none Self.Of.Kind.single Self.Of.Kind.joined n ys)) ≡ true };
+        ensures keeps { StaysMet Self.Of.Kind (meets self.now) };
 }

@@ -1,32 +1,21 @@
-ghost use Rattle.std.specs.Prelude.{◌≡◌};
 ghost use Rattle.own_kind.specs.Heavies.{no_heaviest, one_heaviest, heavier};
-ghost use Rattle.own_kind.specs.Picking.{heavier_right, heavier_assoc};
 ghost use Rattle.std.proofs.Common.{rules};
 
 use book::Station;
 use kinds::Kind;
+use std::fmt;
 
 // A station and what stands on it.
-#[derive(Clone, Copy)]
+#[derive(Clone, Copy, Debug, PartialEq, Eq)]
 pub struct Heavy {
     pub station: usize,
     pub mass: u32,
 }
 
 // The heaviest station, the first of equals, if there is any station.
-#[derive(Clone, Copy)]
+#[derive(Clone, Copy, Debug, Default, PartialEq, Eq)]
 pub struct Heaviest {
     pub at: Option<Heavy>,
-}
-
-fn both(fore: Heaviest, aft: Heaviest) -> Heaviest
-    ensures { result ≡ heavier fore aft }
-{
-    match (fore.at, aft.at) {
-        (None, _) => aft,
-        (Some(_), None) => fore,
-        (Some(x), Some(y)) => if x.mass < y.mass { aft } else { fore },
-    }
 }
 
 impl Kind for Heaviest {
@@ -44,24 +33,36 @@ impl Kind for Heaviest {
 
     ghost left = { Prim.search rules };
 
-    ghost right = { λ x. heavier_right x };
+    ghost right = { Prim.search rules };
 
-    ghost assoc = { λ x y z. heavier_assoc x y z };
+    ghost assoc = { Prim.search rules };
 
     fn empty() -> Heaviest {
-        Heaviest { at: None }
+        Heaviest::default()
     }
 
     fn station(number: usize, given: &Station) -> Heaviest {
-        Heaviest {
-            at: Some(Heavy {
-                station: number,
-                mass: given.mass,
-            }),
-        }
+        let heavy = Heavy {
+            station: number,
+            mass: given.mass,
+        };
+        Heaviest { at: Some(heavy) }
     }
 
     fn join(self, aft: Heaviest) -> Heaviest {
-        both(self, aft)
+        match (self.at, aft.at) {
+            (None, _) => aft,
+            (Some(x), Some(y)) if x.mass < y.mass => aft,
+            _ => self,
+        }
+    }
+}
+
+impl fmt::Display for Heaviest {
+    fn fmt<W: fmt::Write>(&self, f: &mut fmt::Formatter<W>) -> fmt::Result {
+        match self.at {
+            Some(Heavy { station, mass }) => write!(f, "station {station} with {mass} kg"),
+            None => write!(f, "none"),
+        }
     }
 }

@@ -10,6 +10,7 @@ use kinds::{deck_from, meets_from};
 use some_station::SomeStation;
 use std::io;
 
+// The deck of the worked sheet: a constant, since this program reads no file.
 const DECK: [Station; 3] = [
     Station {
         arm: -200,
@@ -35,22 +36,13 @@ const DECK: [Station; 3] = [
 ];
 
 fn print_from(rt: &HostRuntime, from: usize) -> io::Result<()> {
-    let deck: Heaviest = deck_from(&DECK, from);
+    let heaviest: Heaviest = deck_from(&DECK, from);
     let heavy = meets_from(&SomeStation { kg: 800 }, &DECK, from);
-    match deck.at {
-        Some(at) => {
-            let station = at.station;
-            let mass = at.mass;
-            println!(rt;
-                "from {from}: station {station} with {mass} kg, some station of 800 kg: {heavy}"
-            )
-        }
-        None => println!(rt; "from {from}: none, some station of 800 kg: {heavy}"),
-    }
+    println!(rt; "from {from}: {heaviest}, some station of 800 kg: {heavy}")
 }
 
 fn main(rt: HostRuntime) -> io::Result<()> {
-    for from in 0..4 {
+    for from in 0..=DECK.len() {
         print_from(&rt, from)?;
     }
     Ok(())

@@ -4,7 +4,7 @@ use crate::heaviest::Heaviest;
 use kinds::Test;
 
 // That some station carries at least this.
-#[derive(Clone, Copy)]
+#[derive(Clone, Copy, Debug, PartialEq, Eq)]
 pub struct SomeStation {
     pub kg: u32,
 }
@@ -17,9 +17,6 @@ impl Test for SomeStation {
     ghost meets = { λ t x. holds t.kg x.at };
 
     fn met(&self, value: Heaviest) -> bool {
-        match value.at {
-            Some(at) => self.kg <= at.mass,
-            None => false,
-        }
+        value.at.is_some_and(|heavy| self.kg <= heavy.mass)
     }
 }

@@ -1,9 +1,7 @@
-use Rattle.kinds.proofs.Asking.{mass_low, still}
+use Rattle.std.proofs.Common.{arith}
+use Rattle.std.proofs.lemmas.Int.{ints}
+use Rattle.kinds.proofs.Asking.{mass_low}
 use Rattle.kinds.proofs.at_least.AtLeastTest.met.Goals as goal
 
-pub returns : goal.returns
-returns c =
-    record {
-      answers = λ k h w. c.reaches.ensures;
-      keeps = λ m n xs ys lx ly t. still c.args.self.now.mass _ _ (mass_low n ys) t;
-    }
+pub returns-clause-keeps : goal.returns-clause-keeps
+returns-clause-keeps c m n xs ys lx ly t = let low = mass_low n ys in grind (arith, ints)

@@ -1,5 +1,6 @@
 use Rattle.std.proofs.Common.{refl, ◌∙◌}
-use Rattle.kinds.specs.Parts.{house_by, moments_held, moments_join, loads_held, loads_join}
+use Rattle.kinds.specs.Laws.{house_by}
+use Rattle.kinds.proofs.Parts.{moments_held, moments_join, loads_held, loads_join}
 use Rattle.kinds.proofs.house.HouseKind.join.Goals as goal
 
 pub returns : goal.returns

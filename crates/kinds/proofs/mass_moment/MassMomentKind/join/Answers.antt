@@ -1,5 +1,5 @@
 use Rattle.std.proofs.Common.{◌∙◌}
-use Rattle.kinds.specs.Parts.{moments_held, moments_join}
+use Rattle.kinds.proofs.Parts.{moments_held, moments_join}
 use Rattle.kinds.proofs.mass_moment.MassMomentKind.join.Goals as goal
 
 pub returns : goal.returns

@@ -1,5 +1,5 @@
 use Rattle.std.proofs.Common.{◌∙◌}
-use Rattle.kinds.specs.Parts.{loads_held, loads_join}
+use Rattle.kinds.proofs.Parts.{loads_held, loads_join}
 use Rattle.kinds.proofs.running_load.RunningLoadKind.join.Goals as goal
 
 pub returns : goal.returns

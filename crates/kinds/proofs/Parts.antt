@@ -1,32 +1,18 @@
--- The laws of the house's parts, and their joinings within 64 bits.
-use Rattle.std.specs.Prelude.{◌≡◌, ℕ, ◌+◌, ◌≤◌, ℤ, ◌+ℤ◌, Some, None, Option, refl}
-use Rattle.std.proofs.Common.{ap, add_comm, arith}
-use Rattle.std.proofs.Math.IntN.{+ℤ_assoc, +ℤ_idr}
-use Rattle.std.proofs.lemmas.Int.{ints}
-use Rattle.std.specs.Option.{option_or}
+-- Values that may stand for so many stations, each at most 256: what is held within 64 bits is exact, and joined they may stand for as many together.
+use Rattle.std.proofs.Common.{◌≡◌, ℕ, ◌+◌, ◌*◌, ◌≤◌, ℤ, pos, ◌+ℤ◌, ◌-ℤ◌, ◌≤ℤ◌, Some, None, Option, refl, ap, add_comm, arith}
+use Rattle.std.proofs.lemmas.Int.{ints, clamps}
 use Rattle.book.specs.declared.station.Station.{Station}
 use Rattle.book.specs.Fields.{Lawful}
 use Rattle.book.specs.Fields as fields
 use Rattle.book.proofs.Products.{span_moment}
-use Rattle.kinds.specs.declared.floor_record.FloorRecord.{FloorRecord}
-use Rattle.kinds.specs.declared.floor_record.Over.{Over}
-use Rattle.kinds.specs.declared.house.House.{House}
 use Rattle.kinds.specs.declared.mass_moment.MassMoment.{MassMoment}
 use Rattle.kinds.specs.declared.running_load.RunningLoad.{RunningLoad}
-use Rattle.kinds.specs.Floors.{no_floor, both_floors}
-use Rattle.kinds.specs.Houses.{no_house, both_houses}
-use Rattle.kinds.specs.Loads.{least_of, taken, left_of, one_load, both_loads, held_loads, Margin, Bounded}
-use Rattle.kinds.specs.Moments.{no_moment, one_moment, both_moments, held_moments, Within}
-use Rattle.kinds.specs.Ints.{held}
-use Rattle.kinds.specs.Lowering.{load_by, loads_right, loads_assoc, off, margin_off, margin_more, margin_least}
+use Rattle.kinds.specs.Laws.{load_by}
+use Rattle.kinds.specs.Loads.{least_of, taken, sunk, left_of, one_load, both_loads, held_loads, Margin, Bounded}
+use Rattle.kinds.specs.Moments.{one_moment, both_moments, held_moments, Within}
+use Rattle.kinds.proofs.Ints.{held}
 
 -- mass and moment
-
-pub moments_right : (x : MassMoment) → both_moments x no_moment ≡ x
-moments_right x = simp +ℤ_idr
-
-pub moments_assoc : (x y z : MassMoment) → both_moments (both_moments x y) z ≡ both_moments x (both_moments y z)
-moments_assoc x y z = simp +ℤ_assoc
 
 abbrev moments : ℤ → ℤ → MassMoment
 moments m n = record { mass = m; moment = n }
@@ -49,6 +35,25 @@ moments_single s l =
     let p = span_moment s.mass s.arm l.mass_high (l.arm_low, l.arm_high) in
     record { mass_low = omega (arith, ints); mass_high = omega (arith, ints, l.mass_high); moment_low = p.0; moment_high = p.1 }
 
+-- margins
+
+-- taking off in 64 bits loses nothing
+off : (o : Option ℤ) (t : ℤ) (k : ℕ) → k ≤ 256 → Margin o k → pos 0 ≤ℤ t → t ≤ℤ pos 10000000 → sunk o t ≡ taken o t
+off None t k h m low high = refl
+off (Some x) t k h (ml, mh) low high = ap Some (held (x -ℤ t) (record { low = omega (arith, ints); high = omega (arith, ints) }))
+
+margin_off : (o : Option ℤ) (t : ℤ) (j k : ℕ) → Margin o k → pos 0 ≤ℤ t → t ≤ℤ pos (30000 * j) → Margin (taken o t) (j + k)
+margin_off o t j k m low high = grind (arith, ints)
+
+margin_more : (o : Option ℤ) (j k : ℕ) → j ≤ k → Margin o j → Margin o k
+margin_more o j k h m = grind (arith, ints)
+
+margin_least : (a b : Option ℤ) (k : ℕ) → Margin a k → Margin b k → Margin (least_of a b) k
+margin_least a b k m n = grind (arith, ints, clamps)
+
+margin_single : (o : Option ℕ) (m : ℕ) → fields.Limit o → m ≤ 30000 → Margin (left_of o m) 1
+margin_single o m l h = grind (arith, ints)
+
 -- running load
 
 pub loads_held : (x y : RunningLoad) (j k : ℕ) → Bounded x j → Bounded y k → j + k ≤ 256 → held_loads x y ≡ both_loads x y
@@ -67,10 +72,6 @@ loads_join x y j k a b =
       aft_in = margin_least (taken x.aft y.total) y.aft (j + k) (rw (add_comm j k) (margin_off x.aft y.total k j a.aft_in b.total_low b.total_high)) (margin_more y.aft k (j + k) (omega arith) b.aft_in);
     }
 
-margin_single : (o : Option ℕ) (m : ℕ) → fields.Limit o → m ≤ 30000 → Margin (left_of o m) 1
-margin_single None m l h = tt
-margin_single (Some n) m l h = (omega (arith, ints), omega (arith, ints))
-
 pub loads_single : (s : Station) → Lawful s → Bounded (one_load s) 1
 loads_single s l =
     record {
@@ -79,36 +80,3 @@ loads_single s l =
       fore_in = margin_single s.fore s.mass l.fore_high l.mass_high;
       aft_in = margin_single s.aft s.mass l.aft_high l.mass_high;
     }
-
--- floor record
-
-or_right : (o : Option Over) → option_or o None ≡ o
-or_right None = refl
-or_right (Some x) = refl
-
-or_assoc : (o p q : Option Over) → option_or (option_or o p) q ≡ option_or o (option_or p q)
-or_assoc None p q = refl
-or_assoc (Some x) p q = refl
-
-abbrev floors : Option Over → FloorRecord
-floors o = record { first = o }
-
-pub floors_right : (x : FloorRecord) → both_floors x no_floor ≡ x
-floors_right x = ap floors (or_right x.first)
-
-pub floors_assoc : (x y z : FloorRecord) → both_floors (both_floors x y) z ≡ both_floors x (both_floors y z)
-floors_assoc x y z = ap floors (or_assoc x.first y.first z.first)
-
--- the house summary
-
-abbrev house : MassMoment → RunningLoad → FloorRecord → House
-house m l f = record { moments = m; load = l; floors = f }
-
-pub house_by : {m m' : MassMoment} {l l' : RunningLoad} {f f' : FloorRecord} → m ≡ m' → l ≡ l' → f ≡ f' → house m l f ≡ house m' l' f'
-house_by p q r = cc
-
-pub house_right : (x : House) → both_houses x no_house ≡ x
-house_right x = house_by (moments_right x.moments) (loads_right x.load) (floors_right x.floors)
-
-pub house_assoc : (x y z : House) → both_houses (both_houses x y) z ≡ both_houses x (both_houses y z)
-house_assoc x y z = house_by (moments_assoc x.moments y.moments z.moments) (loads_assoc x.load y.load z.load) (floors_assoc x.floors y.floors z.floors)
