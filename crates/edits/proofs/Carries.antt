@@ -1,9 +1,9 @@
 -- An edit that is carried out, step by step, and one that is refused.
-use Rattle.std.proofs.Common.{◌≡◌, ℕ, ◌+◌, ◌-◌, ◌<◌, ◌≤◌, Bool, true, false, cond, eqb, leb, ◌≢◌, List, length, is_some, Some, None, Ok, Err, Option, sym, refl, ap, ◌∙◌, subst, ⊎_elim, true≢false, arith}
+use Rattle.std.proofs.Common.{◌≡◌, ℕ, ◌+◌, ◌-◌, ◌^◌, ◌<◌, ◌≤◌, Bool, true, false, cond, eqb, leb, ◌≢◌, List, length, is_some, Some, None, Ok, Err, Option, sym, refl, ap, ◌∙◌, subst, ⊎_elim, true≢false, arith}
 use Rattle.std.proofs.ByRecursion.{All-get_or, All-set}
 use Rattle.std.proofs.lemmas.List.{get_or-set_other, get_or_past, set_past}
 use Rattle.std.proofs.lemmas.Bool.{cases_Bool, cases_lt, cond-true, cond-false, leb-true, eq-eqb}
-use Rattle.std.specs.Option.{option_or}
+use Rattle.std.specs.Option.{MatchOption, option_or}
 use Rattle.std.specs.Result.{result_err}
 use Rattle.book.specs.declared.station.Station.{Station}
 use Rattle.book.specs.Fields.{Lawful}
@@ -107,6 +107,19 @@ lawful_edited ss e none all =
     let p = passed ss e none in
     lawful_heavier (lighter e.off e.kg ss) e.onto e.kg (still_bears ss e.kg e.off e.onto p.apart p.bears) (lawful_lighter ss e.off e.kg all)
 
+-- kilograms off a station that is named, where what it is left is known
+pub taken_off : {Q : ℕ → Type 0} (off : Option ℕ) (kg : ℕ) (ss ss' : List Station) → MatchOption off (ss' ≡ ss) Q → ((k : ℕ) → Q k → ss' ≡ put ss k ((station_at ss k).mass - kg)) → ss' ≡ lighter off kg ss
+taken_off None kg ss ss' same left = same
+taken_off (Some k) kg ss ss' now left = left k now
+
+-- and onto one that bears them, where what it holds then is known
+pub put_onto : {Q : ℕ → Type 0} (onto : Option ℕ) (kg : ℕ) (ss ss' : List Station) → MatchOption onto (ss' ≡ ss) Q → ((k : ℕ) → Q k → (station_at ss k).mass + kg < 2 ^ 32 → ss' ≡ put ss k ((station_at ss k).mass + kg)) →
+    of_named onto (exceeds ss kg) ≡ None → ss' ≡ heavier onto kg ss
+put_onto None kg ss ss' same held bears = same
+put_onto (Some k) kg ss ss' now held bears =
+    let le : (station_at ss k).mass + kg ≤ 30000 = leb-true _ _ (test_held (leb ((station_at ss k).mass + kg) 30000) (TooHeavy k) bears) in
+    held k now (omega arith)
+
 module _ {K R : Type 0} (G : Ghosts K R) (n : ℕ) (ss : List Station) (nodes : List K) (e : Edit) where
   pub carried_refused : (f : SheetFault) → option_or (memory_refusal n (length ss) (length nodes)) (edit_refusal ss e) ≡ Some f → Carried G n ss nodes e (Err f) ss nodes
   carried_refused f is = record {
@@ -118,18 +131,19 @@ module _ {K R : Type 0} (G : Ghosts K R) (n : ℕ) (ss : List Station) (nodes : 
     beside = λ i d off onto. refl;
   }
 
-  pub carried_done : (ss1 ss2 : List Station) (nodes1 nodes2 : List K) → memory_refusal n (length ss) (length nodes) ≡ None → edit_refusal ss e ≡ None →
+  pub carried_done : (ss1 ss2 : List Station) (nodes1 nodes2 : List K) → option_or (memory_refusal n (length ss) (length nodes)) (edit_refusal ss e) ≡ None →
       ss1 ≡ lighter e.off e.kg ss → Moved G ss nodes e.off ss1 nodes1 →
       (of_named e.onto (exceeds ss1 e.kg) ≡ None → ss2 ≡ heavier e.onto e.kg ss1) → Moved G ss1 nodes1 e.onto ss2 nodes2 →
       Carried G n ss nodes e (Ok tt) ss2 nodes2
-  carried_done ss1 ss2 nodes1 nodes2 memory checks first off second onto =
+  carried_done ss1 ss2 nodes1 nodes2 none first off second onto =
+      let checks = rest_none (memory_refusal n (length ss) (length nodes)) (edit_refusal ss e) none in
       let p = passed ss e checks in
       let bears : of_named e.onto (exceeds ss1 e.kg) ≡ None =
       subst (λ (xs : List Station). of_named e.onto (exceeds xs e.kg) ≡ None) (sym first) (still_bears ss e.kg e.off e.onto p.apart p.bears) in
       let is : ss2 ≡ edited e ss = second bears ∙ ap (heavier e.onto e.kg) first in
       let good : AllLawful ss → AllLawful ss2 = λ all. subst AllLawful (sym is) (lawful_edited ss e checks all) in
       record {
-        refuses = sym (ap (λ (o : Option SheetFault). option_or o (edit_refusal ss e)) memory ∙ checks);
+        refuses = sym none;
         done = λ _. is;
         untouched = λ some. absurd (true≢false (sym some));
         lawful = good;

@@ -1,29 +1,60 @@
-ghost use Rattle.std.specs.Prelude.{◌≡◌, ◌+◌, ◌-◌, ◌^◌, ◌<◌, ◌≤◌, None};
+ghost use Rattle.std.specs.Prelude.{◌≡◌, ℕ, ◌+◌, ◌-◌, ◌^◌, ◌<◌, length, MatchOption, Result};
+ghost use Rattle.std.specs.Option.{option_or};
+ghost use Rattle.book.specs.Refusals.{answer};
 ghost use Rattle.tree.specs.Calls.{Renewed};
+ghost use Rattle.tree.specs.declared.misfit.Misfit.{Misfit};
 ghost use Rattle.edits.specs.Carrying.{Put, Moved, Carried};
-ghost use Rattle.edits.specs.Edits.{lighter, heavier, of_named, exceeds};
+ghost use Rattle.edits.specs.Edits.{put, station_at, memory_refusal, edit_refusal};
 
 use crate::edit::{Edit, check_edit, mass_at};
 use crate::fault::SheetFault;
 use crate::memory::check_memory;
 use book::Station;
 use kinds::Kind;
-use tree::{Misfit, renew};
+use tree::renew;
 
-// The nodes above a station whose record changed, renewed.
-fn follow<K: Kind>(stations: &[Station], nodes: &mut [K], k: usize) -> Result<(), Misfit>
-    ensures { Renewed K.Kind nodes.old nodes.new stations.now k result }
-{
-    renew(nodes, stations, k)
-}
+// Station and node memory are the caller's: two slices, lent with every call.
 
-// Another mass at a station, and the nodes above it renewed. Past the last station nothing is done.
-pub(crate) fn put_mass<K: Kind>(stations: &mut [Station], nodes: &mut [K], k: usize, mass: u32)
-    ensures { Put K.Kind stations.old nodes.old k mass stations.new nodes.new }
+// Another mass in a station's record. Past the last station nothing is written.
+fn write_mass(stations: &mut [Station], k: usize, mass: u32)
+    ensures { stations.new ≡ put stations.old k mass }
 {
+    // By index: after `get_mut` or `iter_mut().nth(k)` no proof knows the other records.
     if k < stations.len() {
         stations[k].mass = mass;
-        let _ = follow(stations, nodes, k);
+    }
+}
+
+// The nodes above a station whose record changed, renewed: nothing is done past the last station, nor on another
+// sheet's nodes.
+fn follow<K: Kind>(stations: &[Station], nodes: &mut [K], k: usize)
+    ensures { (r : Result (Unit {0}) Misfit) × Renewed K.Kind nodes.old nodes.new stations.now k r }
+{
+    let _ = renew(nodes, stations, k);
+}
+
+// Puts another mass at a station, and renews the nodes above it. Past the last station nothing is done.
+pub fn set_mass<K: Kind>(stations: &mut [Station], nodes: &mut [K], k: usize, mass: u32)
+    ensures { Put K.Kind stations.old nodes.old k mass stations.new nodes.new }
+{
+    write_mass(stations, k, mass);
+    follow(stations, nodes, k);
+}
+
+// Another mass at a station, if one is named, by what it holds.
+fn reweigh<K: Kind, F: FnOnce(u32) -> u32>(
+    stations: &mut [Station],
+    nodes: &mut [K],
+    named: Option<usize>,
+    weigh: F,
+)
+    requires { F.IsAlwaysCallable weigh }
+    ensures stations { MatchOption named (stations.new ≡ stations.old) (λ k. (mass : ℕ) × F.post weigh (station_at stations.old k).mass mass × (stations.new ≡ put stations.old k mass)) }
+    ensures nodes { Moved K.Kind stations.old nodes.old named stations.new nodes.new }
+{
+    if let Some(k) = named {
+        let mass = weigh(mass_at(stations, k));
+        set_mass(stations, nodes, k, mass);
     }
 }
 
@@ -41,29 +72,16 @@ fn more(mass: u32, kg: u32) -> u32
     mass.saturating_add(kg)
 }
 
-// Takes kilograms off a station, if one is named.
-fn take_off<K: Kind>(stations: &mut [Station], nodes: &mut [K], off: Option<usize>, kg: u32)
-    ensures stations { stations.new ≡ lighter off kg stations.old }
-    ensures nodes { Moved K.Kind stations.old nodes.old off stations.new nodes.new }
+// Why an edit on this memory is refused, first.
+fn check(n: usize, stations: &[Station], nodes: usize, edit: &Edit) -> Result<(), SheetFault>
+    ensures { result ≡ answer (option_or (memory_refusal n (length stations.now) nodes) (edit_refusal stations.now edit.now)) tt }
 {
-    if let Some(k) = off {
-        let mass = less(mass_at(stations, k), kg);
-        put_mass(stations, nodes, k, mass);
-    }
+    check_memory(n, stations.len(), nodes)?;
+    check_edit(stations, edit)
 }
 
-// Puts kilograms onto a station, if one is named.
-fn put_on<K: Kind>(stations: &mut [Station], nodes: &mut [K], onto: Option<usize>, kg: u32)
-    ensures stations { of_named onto (exceeds stations.old kg) ≡ None → stations.new ≡ heavier onto kg stations.old }
-    ensures nodes { Moved K.Kind stations.old nodes.old onto stations.new nodes.new }
-{
-    if let Some(k) = onto {
-        let mass = more(mass_at(stations, k), kg);
-        put_mass(stations, nodes, k, mass);
-    }
-}
-
-pub(crate) fn carried<K: Kind>(
+// Carries out an edit on the memory of a sheet of `n` stations, or refuses it and leaves all as it was.
+pub fn carry_out<K: Kind>(
     n: usize,
     stations: &mut [Station],
     nodes: &mut [K],
@@ -71,9 +89,8 @@ pub(crate) fn carried<K: Kind>(
 ) -> Result<(), SheetFault>
     ensures { Carried K.Kind n stations.old nodes.old edit.now result stations.new nodes.new }
 {
-    check_memory(n, stations.len(), nodes.len())?;
-    check_edit(stations, edit)?;
-    take_off(stations, nodes, edit.off, edit.kg);
-    put_on(stations, nodes, edit.onto, edit.kg);
+    check(n, stations, nodes.len(), edit)?;
+    reweigh(stations, nodes, edit.off, |mass| less(mass, edit.kg));
+    reweigh(stations, nodes, edit.onto, |mass| more(mass, edit.kg));
     Ok(())
 }

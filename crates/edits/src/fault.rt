@@ -8,7 +8,7 @@ use book::BookFault;
 const LAYER: u8 = 3;
 
 // Why a call on a sheet is refused, or the fault of a book or a record that came from below.
-#[derive(Clone, Copy)]
+#[derive(Clone, Copy, Debug, PartialEq, Eq)]
 pub enum SheetFault {
     Book(BookFault),
     // Station or node memory of another length.
@@ -24,17 +24,17 @@ pub enum SheetFault {
     HoldsLess { station: usize },
     // `from` not below `to`, or `to` past the last station.
     NoRange,
-    // Release with a broken limit, by its verdict code.
+    // Release with a broken limit, by its verdict code: a number, since it is the fault's place.
     NotKept { code: u8 },
     // More kilograms changed after release than the allowance.
     OverAllowance,
-    // A change that breaks a limit, by its verdict code.
+    // A change that breaks a limit, by its verdict code, a number as in `NotKept`.
     Breaks { code: u8 },
     // A 257th stage.
     TooManyStages,
 }
 
-// A book's fault goes up whole.
+// A book's fault goes up whole. By hand, since contracts cite `from_gives`.
 impl From<BookFault> for SheetFault {
     ghost from_gives = { λ f r. r ≡ OfBook f };
 
@@ -84,7 +84,7 @@ impl SheetFault {
             | SheetFault::SameStation { station }
             | SheetFault::TooHeavy { station }
             | SheetFault::HoldsLess { station } => *station,
-            SheetFault::NotKept { code } | SheetFault::Breaks { code } => *code as usize,
+            SheetFault::NotKept { code } | SheetFault::Breaks { code } => usize::from(*code),
             _ => 0,
         }
     }

@@ -2,11 +2,11 @@
 use Rattle.std.proofs.Common.{◌≡◌, ℕ, zero, suc, ◌+◌, ◌-◌, ◌*◌, ◌^◌, ◌<◌, ◌≤◌, Bool, true, false, List, length, get_or, take, drop, Some, None, sym, ap, ◌∙◌, subst, ⊎_elim, zero-add, arith}
 use native.Mathlib.Nat.{pow-succ'}
 use Rattle.std.proofs.ByRecursion.{All-take, All-drop}
-use Rattle.std.proofs.lemmas.Bool.{cases_Bool, cases_lt, both_ways}
+use Rattle.std.proofs.lemmas.Bool.{cases_lt, both_ways, false_from_ne_true}
 use Rattle.book.specs.declared.station.Station.{Station}
 use Rattle.book.specs.Fields.{Lawful}
 use Rattle.kinds.specs.declared.kind.Kind.{Ghosts}
-use Rattle.kinds.specs.Folds.{read_at, AllLawful}
+use Rattle.kinds.specs.Folds.{AllLawful, StaysMet}
 use Rattle.tree.specs.Calls.{FirstMet}
 use Rattle.tree.specs.Trees.{Place, among, part}
 use Rattle.tree.specs.Under.{Over, JoinsNode, Whole}
@@ -21,16 +21,7 @@ pub record Down {K R : Type 0} (G : Ghosts K R) (meets : R → Bool) (w : ℕ) (
   pub unmet : 0 < p → meets (part G 0 p ss) ≡ false
   pub met : meets (part G 0 (p + 2 ^ h) ss) ≡ true
 
-false_from : (b : Bool) → (b ≡ true → ⊥) → b ≡ false
-false_from b n = ⊎_elim (λ (t : b ≡ true). absurd (n t)) (λ (f : b ≡ false). f) (cases_Bool b)
-
-module _ {K R : Type 0} (G : Ghosts K R) (meets : R → Bool) where
-  -- what a test promises: stations that meet it still do with lawful stations aft of them
-  abbrev pub Keeps : Type 0
-  Keeps = (m n : ℕ) (xs ys : List Station) → AllLawful xs → AllLawful ys → meets (read_at G.none G.single G.joined m xs) ≡ true →
-      meets (G.joined (read_at G.none G.single G.joined m xs) (read_at G.none G.single G.joined n ys)) ≡ true
-
-module _ {K R : Type 0} (G : Ghosts K R) (laws : Laws G) (meets : R → Bool) (keeps : Keeps G meets) (ss : List Station) (lawful : AllLawful ss) where
+module _ {K R : Type 0} (G : Ghosts K R) (laws : Laws G) (meets : R → Bool) (keeps : StaysMet G meets) (ss : List Station) (lawful : AllLawful ss) where
   -- what is met by the first a places is met by the first b
   stays_on : (a b : ℕ) → a ≤ b → meets (part G 0 a ss) ≡ true → meets (part G 0 b ss) ≡ true
   stays_on a b le t =
@@ -46,7 +37,7 @@ module _ {K R : Type 0} (G : Ghosts K R) (laws : Laws G) (meets : R → Bool) (k
       part_add G laws 0 p 1 ss ∙ ap (G.joined (part G 0 p ss)) gone ∙ laws.right (part G 0 p ss)
 
   pub none_met : (w : ℕ) → length ss ≤ w → meets (part G 0 w ss) ≡ false → FirstMet G meets ss None
-  none_met w le f k lt = false_from _ (λ t. both_ways _ f (stays_on (k + 1) w (omega arith) t))
+  none_met w le f k lt = false_from_ne_true _ (λ t. both_ways _ f (stays_on (k + 1) w (omega arith) t))
 
   pub down_end : 0 < length ss → (w h i : ℕ) (before : K) → w ≤ i → Down G meets w ss h i before → FirstMet G meets ss (Some (i - w))
   down_end some w h i before le s =
@@ -59,7 +50,7 @@ module _ {K R : Type 0} (G : Ghosts K R) (laws : Laws G) (meets : R → Bool) (k
             (λ (past : length ss ≤ s.p). absurd (both_ways _ (s.unmet (omega arith)) (subst (λ (x : R). meets x ≡ true) (past_same s.p past) here)))
             (cases_lt s.p (length ss)),
         here,
-        λ j lt. false_from _ (λ t. both_ways _ (s.unmet (omega arith)) (stays_on (j + 1) s.p (omega arith) t)),
+        λ j lt. false_from_ne_true _ (λ t. both_ways _ (s.unmet (omega arith)) (stays_on (j + 1) s.p (omega arith) t)),
       )
 
 -- an answer of a test on values that may stand for up to 256 stations is about their reading

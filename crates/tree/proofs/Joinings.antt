@@ -1,8 +1,8 @@
 -- A node joined anew from the two below it.
-use Rattle.std.proofs.Common.{◌≡◌, ℕ, zero, suc, ◌+◌, ◌-◌, ◌*◌, ◌^◌, ◌<◌, ◌≤◌, ◌≢◌, List, ◌++◌, length, get_or, take, set, sym, ap, ◌∙◌, subst, ⊎_elim, arith}
-use borrow.Rule.Slice.PartMut.{put_mid, post_of}
+use Rattle.std.proofs.Common.{◌≡◌, ℕ, zero, suc, ◌+◌, ◌*◌, ◌^◌, ◌<◌, ◌≤◌, ◌≢◌, List, length, get_or, set, sym, subst, ⊎_elim, arith, rules}
+use borrow.Rule.Slice.PartMut.{put_mid}
 use native.Mathlib.Nat.{pow-succ'}
-use Rattle.std.proofs.lemmas.List.{get_or_append_left, get_or-append_right, length-take-le, get_or-take, get_or-set_same, get_or-set_other}
+use Rattle.std.proofs.lemmas.List.{get_or-set_same, get_or-set_other, places}
 use Rattle.std.proofs.lemmas.Nat.{pow_pos}
 use Rattle.std.proofs.lemmas.Bool.{cases_eq}
 use Rattle.book.specs.declared.station.Station.{Station}
@@ -14,16 +14,11 @@ use Rattle.tree.proofs.Places.{at_leaf, at_inner, fore_child, aft_child}
 
 -- the part of a list that was lent from a on
 pub getD_lent : {A : Type 0} (xs ys : List A) (a n k : ℕ) (d : A) → a ≤ length xs → k < length ys → get_or (put_mid a n xs ys) (a + k) d ≡ get_or ys k d
-getD_lent xs ys a n k d le lt =
-    let e : a + k - a ≡ k = omega arith in
-    get_or-append_right (take a xs) (ys ++ post_of a n xs) a (a + k) d (length-take-le a xs le) (omega arith)
-    ∙ ap (λ (i : ℕ). get_or (ys ++ post_of a n xs) i d) e ∙ get_or_append_left ys (post_of a n xs) d k lt
+getD_lent xs ys a n k d le lt = search (rules, places)
 
 -- and before it nothing changed
 pub getD_before_lent : {A : Type 0} (xs ys : List A) (a n k : ℕ) (d : A) → a ≤ length xs → k < a → get_or (put_mid a n xs ys) k d ≡ get_or xs k d
-getD_before_lent xs ys a n k d le lt =
-    let long : k < length (take a xs) = omega (arith, length-take-le a xs le) in
-    get_or_append_left (take a xs) (ys ++ post_of a n xs) d k long ∙ get_or-take a xs k d lt
+getD_before_lent xs ys a n k d le lt = search (rules, places)
 
 -- right leaves are right nodes from w on
 pub leaves_right : {K R : Type 0} (G : Ghosts K R) (nodes : List K) (w : ℕ) (ss : List Station) → ((k : ℕ) (d : K) → k < w → Over G (get_or nodes (w + k) d) k 1 ss) → Right G (λ j. w ≤ j) nodes w ss

@@ -9,6 +9,7 @@ use Rattle.tree.specs.Trees.{among, part}
 use Rattle.tree.specs.Under.{Over, Joins}
 
 -- a kind's laws
+-- (each answer writes it out of its own goal's record of bounds, which no shared lemma can name)
 pub record Laws {K R : Type 0} (G : Ghosts K R) : Type 0 where
   pub left : (x : R) → G.joined G.none x ≡ x
   pub right : (x : R) → G.joined x G.none ≡ x
@@ -36,14 +37,6 @@ module _ {K R : Type 0} (G : Ghosts K R) where
   -- a place past the last station holds none
   pub part_past : (a c : ℕ) (ss : List Station) → length ss ≤ a → part G a c ss ≡ G.none
   part_past a c ss past = ap (read_at G.none G.single G.joined a) (ap (take c) (drop_all a ss past) ∙ take-nil c)
-
-  pub over_past : (v : K) (a c : ℕ) (ss : List Station) → length ss ≤ a → G.reading v ≡ G.none → G.stands v 0 → Over G v a c ss
-  over_past v a c ss past reads counts =
-      let gone : take c (drop a ss) ≡ [] = ap (take c) (drop_all a ss past) ∙ take-nil c in
-      record {
-        reads = reads ∙ sym (part_past a c ss past);
-        counts = subst (λ (xs : List Station). G.stands v (length xs)) (sym gone) counts;
-      }
 
   -- and no place at all holds none
   pub over_none : (v : K) (a : ℕ) (ss : List Station) → G.reading v ≡ G.none → G.stands v 0 → Over G v a 0 ss

@@ -1,28 +1,26 @@
 -- What a refused call leaves, and what an accepted one was asked.
-use Rattle.std.proofs.Common.{◌≡◌, ℕ, ◌<◌, ◌≤◌, Bool, true, false, cond, ◌&&◌, ltb, leb, List, length, is_some, Some, None, Ok, Err, Option, Result, sym, refl, ap, ◌∙◌, ⊎_elim, true≢false}
+use Rattle.std.proofs.Common.{◌≡◌, ℕ, ◌<◌, ◌≤◌, Bool, true, false, cond, ◌&&◌, ltb, leb, List, length, Some, None, Ok, Err, Option, Result, sym, refl, ap, ◌∙◌, ⊎_elim}
 use Rattle.std.proofs.lemmas.Bool.{cases_Bool, cond-false, and_parts, leb-true, ltb-true}
+use Rattle.std.proofs.lemmas.Option.{none-some}
 use Rattle.std.specs.Option.{option_or}
 use Rattle.std.specs.Result.{result_unwrap_or}
 use Rattle.book.specs.declared.station.Station.{Station}
 use Rattle.kinds.specs.declared.kind.Kind.{Ghosts}
 use Rattle.tree.specs.declared.misfit.Misfit.{Misfit}
 use Rattle.tree.specs.declared.misfit.Misfit.TheVariants.{OtherLength, NoStation, NoRange}
-use Rattle.tree.specs.Calls.{memory_refusal, station_refusal, range_refusal, Filled, Renewed}
+use Rattle.tree.specs.Calls.{memory_refusal, station_refusal, range_refusal, Filled}
 use Rattle.tree.specs.Widths.{fits}
 use Rattle.tree.proofs.Overs.{Laws}
 use Rattle.tree.proofs.Wholes.{trees_read}
 
-none_some : {X : Type 0} {x : X} → ◌≡◌ {A = Option X} None (Some x) → ⊥
-none_some e = true≢false (sym (ap is_some e))
-
 -- no refusal, so the test held
 test_held : {X : Type 0} (b : Bool) (x : X) → ◌≡◌ {A = Option X} None (cond b None (Some x)) → b ≡ true
-test_held b x e = ⊎_elim (λ (t : b ≡ true). t) (λ (f : b ≡ false). absurd (none_some (e ∙ cond-false b None (Some x) f))) (cases_Bool b)
+test_held b x e = ⊎_elim (λ (t : b ≡ true). t) (λ (f : b ≡ false). absurd (none-some x (e ∙ cond-false b None (Some x) f))) (cases_Bool b)
 
 -- and so did both of two
 neither : {X : Type 0} (p q : Option X) → None ≡ option_or p q → (None ≡ p) × (None ≡ q)
 neither None q e = (refl, e)
-neither (Some x) q e = absurd (none_some e)
+neither (Some x) q e = absurd (none-some x e)
 
 pub memory_kept : (n m : ℕ) → None ≡ memory_refusal n m → fits n m ≡ true
 memory_kept n m e = test_held (fits n m) OtherLength e
@@ -46,16 +44,8 @@ module _ {K R : Type 0} (G : Ghosts K R) where
   pub filled_refused : (laws : Laws G) (before : List K) (ss : List Station) (e : Misfit) → Some e ≡ memory_refusal (length ss) (length before) → Filled G before before ss (Err e)
   filled_refused laws before ss e is = record {
     refuses = is;
-    tree = λ none. absurd (none_some (sym none));
+    tree = λ none. absurd (none-some e (sym none));
     first_node = λ d. refl;
     untouched = λ _. refl;
     reads = trees_read G laws;
-  }
-
-  pub renewed_refused : (before : List K) (ss : List Station) (k : ℕ) (e : Misfit) → Some e ≡ station_refusal (length ss) (length before) k → Renewed G before before ss k (Err e)
-  renewed_refused before ss k e is = record {
-    refuses = is;
-    tree = λ none. absurd (none_some (sym none));
-    beside = λ i d out. refl;
-    untouched = λ _. refl;
   }

@@ -1,4 +1,4 @@
-ghost use Rattle.std.specs.Prelude.{◌≡◌, length};
+ghost use Rattle.std.specs.Prelude.{◌≡◌};
 ghost use Rattle.std.specs.Result.{result_err};
 ghost use Rattle.tree.specs.Calls.{memory_refusal, station_refusal, range_refusal, Filled, Renewed, Ranged, Found};
 
@@ -10,6 +10,8 @@ use crate::spans::span;
 use crate::widths::fits;
 use book::Station;
 use kinds::{Kind, Test};
+
+// Station and node memory are the caller's: two slices, lent with every call.
 
 // Refuses a node memory that is not this deck's.
 fn check_memory(stations: usize, nodes: usize) -> Result<(), Misfit>
@@ -46,6 +48,7 @@ fn check_range(stations: usize, nodes: usize, from: usize, to: usize) -> Result<
     }
 }
 
+// Writes the leaves, and then joins the inner nodes.
 pub(crate) fn filled<K: Kind>(nodes: &mut [K], stations: &[Station]) -> Result<(), Misfit>
     ensures { Filled K.Kind nodes.old nodes.new stations.now result }
 {
@@ -56,6 +59,7 @@ pub(crate) fn filled<K: Kind>(nodes: &mut [K], stations: &[Station]) -> Result<(
     Ok(())
 }
 
+// Writes one leaf anew, and joins the nodes above it.
 pub(crate) fn renewed<K: Kind>(
     nodes: &mut [K],
     stations: &[Station],
@@ -70,6 +74,7 @@ pub(crate) fn renewed<K: Kind>(
     Ok(())
 }
 
+// Joins a range's stations.
 pub(crate) fn ranged<K: Kind>(
     nodes: &[K],
     stations: usize,
@@ -82,6 +87,7 @@ pub(crate) fn ranged<K: Kind>(
     Ok(span(nodes, from, to))
 }
 
+// Looks for the first station that meets a test.
 pub(crate) fn found<T: Test>(
     test: &T,
     nodes: &[T::Of],

@@ -2,17 +2,10 @@ ghost use Rattle.std.specs.Prelude.{◌≡◌, ℕ, ◌*◌, ◌^◌, ◌<◌, �
 ghost use Rattle.book.specs.declared.station.Station.{Station};
 ghost use Rattle.kinds.specs.Folds.{AllLawful};
 ghost use Rattle.tree.specs.Calls.{FirstMet};
-ghost use Rattle.tree.specs.Under.{JoinsNode, Whole};
+ghost use Rattle.tree.specs.Under.{Whole};
 
+use crate::joins::onto_fore;
 use kinds::{Kind, Test};
-
-// One node more behind what stands before it.
-fn with_node<K: Kind>(before: K, nodes: &[K], i: usize) -> K
-    requires { i < length nodes.now }
-    ensures { JoinsNode K.Kind before nodes.now i result }
-{
-    before.join(nodes[i])
-}
 
 // The least station that meets the test with all before it: down from node 1, into the forward child where the
 // test is met with it, else past it.
@@ -27,10 +20,11 @@ pub(crate) fn descend<T: Test>(test: &T, nodes: &[T::Of]) -> Option<usize>
         return None;
     }
     let mut before = <T::Of as Kind>::empty();
+    // The next node is twice the number, or one more by what the test says: no range runs so.
     let mut i = 1;
     while i < w {
         i = 2 * i;
-        let more = with_node(before, nodes, i);
+        let more = onto_fore(before, nodes, i);
         if !test.met(more) {
             before = more;
             i += 1;

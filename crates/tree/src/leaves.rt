@@ -1,5 +1,5 @@
-ghost use Rattle.std.specs.Prelude.{ℕ, ◌<◌, ◌≤◌, length, slice_index_or};
-ghost use Rattle.kinds.specs.Folds.{AllLawful};
+ghost use Rattle.std.specs.Prelude.{ℕ, ◌<◌, length, slice_index_or};
+ghost use Rattle.kinds.specs.Folds.{OnDeck};
 ghost use Rattle.tree.specs.Under.{Over, StationLeaf, EmptyLeaf};
 
 use book::Station;
@@ -22,7 +22,7 @@ fn padding<K: Kind>() -> K
 
 // The leaf of a place on the deck: the station there, or empty past the last one.
 fn leaf_at<K: Kind>(stations: &[Station], k: usize) -> K
-    ensures { AllLawful stations.now → length stations.now ≤ 256 → Over K.Kind result k 1 stations.now }
+    ensures { OnDeck stations.now (Over K.Kind result k 1 stations.now) }
 {
     if k < stations.len() {
         station_leaf(stations, k)
@@ -33,9 +33,9 @@ fn leaf_at<K: Kind>(stations: &[Station], k: usize) -> K
 
 // Writes all leaves: the part of the node memory that is lent here begins at the tree's width.
 pub(crate) fn write_leaves<K: Kind>(leaves: &mut [K], stations: &[Station])
-    ensures { AllLawful stations.now → length stations.now ≤ 256 → (k : ℕ) (d : K) → k < length leaves.new → Over K.Kind (slice_index_or leaves.new k d) k 1 stations.now }
+    ensures { OnDeck stations.now ((k : ℕ) (d : K) → k < length leaves.new → Over K.Kind (slice_index_or leaves.new k d) k 1 stations.now) }
 {
-    for k in 0..leaves.len() {
-        leaves[k] = leaf_at(stations, k);
+    for (k, leaf) in leaves.iter_mut().enumerate() {
+        *leaf = leaf_at(stations, k);
     }
 }

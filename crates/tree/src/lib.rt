@@ -4,6 +4,7 @@
 mod calls;
 mod descent;
 mod inner;
+mod joins;
 mod leaves;
 mod misfit;
 mod spans;

@@ -1,5 +1,5 @@
 // Why a call on a tree is not answered.
-#[derive(Clone, Copy)]
+#[derive(Clone, Copy, Debug, PartialEq, Eq)]
 pub enum Misfit {
     // The deck has no station or over 256, or the node memory is not twice its width.
     OtherLength,

@@ -1,24 +1,9 @@
-ghost use Rattle.std.specs.Prelude.{ℕ, ◌-◌, ◌/◌, ◌<◌, ◌≤◌, List, length};
+ghost use Rattle.std.specs.Prelude.{◌-◌, ◌/◌, ◌<◌, ◌≤◌, List, length};
 ghost use Rattle.book.specs.declared.station.Station.{Station};
-ghost use Rattle.tree.specs.Under.{Over, JoinsNode, NodeJoins, Whole};
+ghost use Rattle.tree.specs.Under.{Over, Whole};
 
+use crate::joins::{onto_aft, onto_fore};
 use kinds::Kind;
-
-// One node more behind the forward part.
-fn onto_fore<K: Kind>(fore: K, nodes: &[K], i: usize) -> K
-    requires { i < length nodes.now }
-    ensures { JoinsNode K.Kind fore nodes.now i result }
-{
-    fore.join(nodes[i])
-}
-
-// One node more before the aft part.
-fn onto_aft<K: Kind>(nodes: &[K], i: usize, aft: K) -> K
-    requires { i < length nodes.now }
-    ensures { NodeJoins K.Kind nodes.now i aft result }
-{
-    nodes[i].join(aft)
-}
 
 // The stations from `from` up to `to` - 1, by the fewest nodes that hold them: from both ends up the tree, the
 // forward part grows aft and the aft part grows forward until they meet.
@@ -30,6 +15,7 @@ pub(crate) fn span<K: Kind>(nodes: &[K], from: usize, to: usize) -> K
     let w = nodes.len() / 2;
     let mut fore = K::empty();
     let mut aft = K::empty();
+    // Both ends climb at once, by half their numbers, and what each turn joins depends on them: no range runs so.
     let mut l = w + from;
     let mut r = w + to;
     while l < r {

@@ -5,6 +5,9 @@ use crate::misfit::Misfit;
 use book::Station;
 use kinds::{Kind, Test};
 
+// The proof of each call stands at its inner function. The promise stands here again, so that wrong work is refused
+// at a clause and not in that proof.
+
 // Writes the tree of the stations, whatever the nodes were before. Node 0 is never written.
 pub fn fill<K: Kind>(nodes: &mut [K], stations: &[Station]) -> Result<(), Misfit>
     ensures { Filled K.Kind nodes.old nodes.new stations.now result }

@@ -1,19 +1,12 @@
 use Rattle.std.proofs.Common.{◌≡◌, ◌+◌, ◌/◌, ◌<◌, length, rules}
 use Rattle.std.proofs.lemmas.List.{length-set}
-use Rattle.std.proofs.lemmas.Result.{err_from_is_err_and}
 use Rattle.tree.proofs.Accepting.{renewed_done, leaf_room}
 use Rattle.tree.proofs.Overs.{Laws}
-use Rattle.tree.proofs.Refusing.{renewed_refused}
 use Rattle.tree.proofs.calls.renewed.Given as given
 use Rattle.tree.proofs.calls.renewed.Goals as goal
 
 laws : (g : given.Over) → Laws g.K.Kind
 laws g = record { left = g.met.K.Kind.left; right = g.met.K.Kind.right; assoc = g.met.K.Kind.assoc }
-
-pub returns-in_err-check_station : goal.returns-in_err-check_station
-returns-in_err-check_station g c =
-    let (e, is, from) = err_from_is_err_and c.from_residual.result c.from_residual.ensures.1 in
-    rw (is, from) (renewed_refused g.K.Kind c.args.nodes.now c.args.stations.now c.args.k _ c.in_err-check_station.ensures)
 
 pub offset_bounds-nodes-leaf : goal.offset_bounds-nodes-leaf
 offset_bounds-nodes-leaf g c =

@@ -33,8 +33,8 @@ loop-i-preserved-then-not-met-2 g c = (
   omega arith,
   λ ss height few power whole.
       let (h, s) = c.loop-i.invariant.2 ss height few power whole in
-      down_aft g.T.Of.Kind (laws g) (g.T.Test.meets c.args.test.now) c.args.nodes.now (length c.args.nodes.now / 2) ss few whole h c.loop-i.i c.loop-i.before c.with_node-more.result
-      c.loop-i-test.true c.with_node-more.ensures c.met-in-loop-i.result c.met-in-loop-i.ensures.answers c.if-not-met-2.true s,
+      down_aft g.T.Of.Kind (laws g) (g.T.Test.meets c.args.test.now) c.args.nodes.now (length c.args.nodes.now / 2) ss few whole h c.loop-i.i c.loop-i.before c.onto_fore-more.result
+      c.loop-i-test.true c.onto_fore-more.ensures c.met-in-loop-i.result c.met-in-loop-i.ensures.answers c.if-not-met-2.true s,
 )
 
 pub loop-i-preserved : goal.loop-i-preserved
@@ -43,8 +43,8 @@ loop-i-preserved g c = (
   omega arith,
   λ ss height few power whole.
       let (h, s) = c.loop-i.invariant.2 ss height few power whole in
-      down_fore g.T.Of.Kind (laws g) (g.T.Test.meets c.args.test.now) c.args.nodes.now (length c.args.nodes.now / 2) ss few whole h c.loop-i.i c.loop-i.before c.with_node-more.result
-      c.loop-i-test.true c.with_node-more.ensures c.met-in-loop-i.result c.met-in-loop-i.ensures.answers c.if-not-met-2.false s,
+      down_fore g.T.Of.Kind (laws g) (g.T.Test.meets c.args.test.now) c.args.nodes.now (length c.args.nodes.now / 2) ss few whole h c.loop-i.i c.loop-i.before c.onto_fore-more.result
+      c.loop-i-test.true c.onto_fore-more.ensures c.met-in-loop-i.result c.met-in-loop-i.ensures.answers c.if-not-met-2.false s,
 )
 
 pub returns : goal.returns

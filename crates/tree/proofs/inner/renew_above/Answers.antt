@@ -1,13 +1,10 @@
-use Rattle.std.proofs.Common.{◌≡◌, ℕ, ◌+◌, ◌*◌, ◌/◌, ◌<◌, ◌≢◌, length, sym, refl, ◌∙◌, subst, ⊎_elim, arith, rules}
+use Rattle.std.proofs.Common.{◌≡◌, ℕ, ◌+◌, ◌*◌, ◌/◌, ◌<◌, ◌≢◌, length, sym, ◌∙◌, subst, ⊎_elim, arith}
 use Rattle.std.proofs.lemmas.List.{get_or-set_other, length-set}
 use Rattle.tree.specs.Trees.{Above}
 use Rattle.tree.proofs.Joinings.{right_more}
 use Rattle.tree.proofs.Overs.{Laws}
 use Rattle.tree.proofs.Places.{above_self, above_half, above_cases, above_none, above_le}
 use Rattle.tree.proofs.inner.renew_above.Goals as goal
-
-pub loop-i-init : goal.loop-i-init
-loop-i-init g c = (omega (arith, c.parent-i.ensures, c.requires), λ j a. a, λ j d out. refl, λ w ss long few all. all)
 
 pub loop-i-preserved : goal.loop-i-preserved
 loop-i-preserved g c =
@@ -43,11 +40,3 @@ returns g c =
       whole = λ w ss long few all h j p d pl.
           right w ss (c.loop-i.auto.nodes ∙ long) few (λ h' j' p' d' pl' away. all h' j' p' d' pl' (λ a. away (subst (λ (x : ℕ). Above j' x) (sym from) a))) h j p d pl (out j);
     }
-
-pub children_joined-requires : goal.children_joined-requires
-children_joined-requires g c = c.loop-i.invariant.0
-
-pub offset_bounds-nodes-i : goal.offset_bounds-nodes-i
-offset_bounds-nodes-i g c =
-    let lt : c.loop-i.i < length c.args.nodes.now = omega (arith, c.loop-i.invariant.0, c.loop-i.auto.nodes) in
-    search rules
