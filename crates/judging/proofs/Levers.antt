@@ -1,36 +1,27 @@
 -- The stations on one side of a frame as a part of the deck, and their bending by mass and moment.
-use Rattle.std.proofs.Common.{◌≡◌, ℕ, zero, suc, ◌+◌, ◌-◌, ◌≤◌, Bool, true, false, cond, List, [], ◌∷◌, ◌++◌, reverse, length, take, drop, ℤ, pos, ◌+ℤ◌, ◌-ℤ◌, ◌*ℤ◌, sym, refl, ap, ◌∙◌, suc-add, zero-add, one-add, arith, length-drop}
+use Rattle.std.proofs.Common.{◌≡◌, ℕ, zero, suc, ◌+◌, ◌-◌, ◌≤◌, Bool, List, [], ◌∷◌, ◌++◌, reverse, length, take, drop, ℤ, pos, ◌+ℤ◌, ◌-ℤ◌, ◌*ℤ◌, sym, refl, ap, ◌∙◌, suc-add, zero-add, arith, length-drop}
 use lib.IntN.{zero-*ℤ, *ℤ-zero, suc_ℤ-*ℤ, *ℤ_comm}
 use lib.Signed.{lt_z}
 use Rattle.std.proofs.lemmas.List.{take-append-drop, reverse-append, reverse-reverse, length-reverse, drop_at, take_rest}
 use Rattle.std.proofs.lemmas.Int.{ints}
 use Rattle.std.proofs.lemmas.List.Sums.{prefix_len-le-length}
-use Rattle.std.specs.List.{prefix_len, suffix_len}
+use Rattle.std.specs.List.{suffix_len}
 use Rattle.book.specs.declared.station.Station.{Station}
 use Rattle.book.specs.Sums.{mass_of, moment_of}
 use Rattle.book.specs.declared.frame.Frame.{Frame}
 use Rattle.book.specs.declared.frame.Side.{Side}
 use Rattle.book.specs.declared.frame.Side.TheVariants.{Fore, Aft}
-use Rattle.judging.specs.Bending.{front_while, back_while, moment_ahead, moment_behind, side_bending}
+use Rattle.judging.specs.Bending.{back_while, moment_ahead, moment_behind, side_bending}
 use Rattle.judging.specs.Steps.{load_of, count_ahead, count_aft, on_side, bent}
 
 module _ (test : Station → Bool) where
-  pub front_take : (ss : List Station) → front_while test ss ≡ take (prefix_len test ss) ss
-  front_take [] = refl
-  front_take (s ∷ ss) = by (test s) (front_take ss)
-    where
-      by : (b : Bool) → front_while test ss ≡ take (prefix_len test ss) ss → cond b (s ∷ front_while test ss) [] ≡ take (cond b (1 + prefix_len test ss) 0) (s ∷ ss)
-      by true h = ap (λ (l : List Station). s ∷ l) h ∙ sym (ap (λ (k : ℕ). take k (s ∷ ss)) (one-add (prefix_len test ss)))
-      by false h = refl
-
   pub back_drop : (ss : List Station) → back_while test ss ≡ drop (length ss - suffix_len test ss) ss
   back_drop ss =
       let k = suffix_len test ss in
       let rs = reverse ss in
       let parts : ss ≡ reverse (drop k rs) ++ reverse (take k rs) = sym (reverse-reverse ss) ∙ ap reverse (sym (take-append-drop k rs)) ∙ reverse-append (take k rs) (drop k rs) in
       let long : length (reverse (drop k rs)) ≡ length ss - k = length-reverse (drop k rs) ∙ length-drop k rs ∙ ap (λ (n : ℕ). n - k) (length-reverse ss) in
-      ap reverse (front_take rs)
-      ∙ sym (ap (drop (length ss - k)) parts ∙ drop_at (reverse (drop k rs)) (reverse (take k rs)) (length ss - k) long)
+      sym (ap (drop (length ss - k)) parts ∙ drop_at (reverse (drop k rs)) (reverse (take k rs)) (length ss - k) long)
 
 -- products
 
@@ -92,7 +83,7 @@ module _ (f : Frame) (ss : List Station) (k : ℕ) where
   pub ahead_part : k ≡ count_ahead f ss → take (k - 0) (drop 0 ss) ≡ on_side Fore f.arm ss
   ahead_part is =
       let e : k - 0 ≡ count_ahead f ss = omega arith in
-      ap (λ (n : ℕ). take n ss) e ∙ sym (front_take (λ s. lt_z s.arm f.arm) ss)
+      ap (λ (n : ℕ). take n ss) e
 
   pub aft_part : k ≡ length ss - count_aft f ss → take (length ss - k) (drop k ss) ≡ on_side Aft f.arm ss
   aft_part is = take_rest ss k ∙ ap (λ (n : ℕ). drop n ss) is ∙ sym (back_drop (λ s. lt_z f.arm s.arm) ss)

@@ -9,12 +9,12 @@ use Rattle.judging.specs.Spots.{last_failing}
 
 pub neither : {X : Type 0} (a b : Option X) → option_or a b ≡ None → (a ≡ None) × (b ≡ None)
 neither None b e = (refl, e)
-neither (Some x) b e = let z : ◌≡◌ {A = ℕ} 0 1 = cc in absurd (omega arith)
+neither (Some x) b e = absurd cc
 
 -- an answer only where a test fails, so it held
 passed : (b : Bool) (n : ℕ) → cond b None (Some n) ≡ None → b ≡ true
 passed true n e = refl
-passed false n e = let z : ◌≡◌ {A = ℕ} 0 1 = cc in absurd (omega arith)
+passed false n e = absurd cc
 
 module _ {X : Type 0} (test : X → Bool) where
   abbrev pub Passes : X → Type 0
@@ -26,11 +26,23 @@ module _ {X : Type 0} (test : X → Bool) where
     where
       by : (b : Bool) → test x ≡ b → cond b (first_failing test (suc n) xs) (Some n) ≡ None → (first_failing test (suc n) xs ≡ None → AllByRecursion Passes xs) → AllByRecursion Passes (x ∷ xs)
       by true h e rest = (h, rest e)
-      by false h e rest = let z : ◌≡◌ {A = ℕ} 0 1 = cc in absurd (omega arith)
+      by false h e rest = absurd cc
 
   pub all_first : (n : ℕ) (xs : List X) → AllByRecursion Passes xs → first_failing test n xs ≡ None
   all_first n [] h = refl
   all_first n (x ∷ xs) (h, rest) = cond-true (test x) _ _ h ∙ all_first (suc n) xs rest
+
+  -- the first that fails, by its place: each before it passes
+  pub found_first : (n i : ℕ) (xs : List X) (d : X) → i < length xs → ((k : ℕ) → k < i → test (get_or xs k d) ≡ true) → test (get_or xs i d) ≡ false → Some (n + i) ≡ first_failing test n xs
+  found_first n i [] d l before h = absurd (omega arith)
+  found_first n zero (x ∷ xs) d l before h = ap Some (add-zero n) ∙ sym (cond-false (test x) _ _ h)
+  found_first n (suc i) (x ∷ xs) d l before h =
+      let m : n + suc i ≡ suc n + i = omega arith in
+      ap Some m ∙ found_first (suc n) i xs d (omega arith) (λ k b. before (suc k) (omega arith)) h ∙ sym (cond-true (test x) _ _ (before 0 (omega arith)))
+
+  pub none_first : (n : ℕ) (xs : List X) (d : X) → ((k : ℕ) → k < length xs → test (get_or xs k d) ≡ true) → None ≡ first_failing test n xs
+  none_first n [] d all = refl
+  none_first n (x ∷ xs) d all = none_first (suc n) xs d (λ k b. all (suc k) (omega arith)) ∙ sym (cond-true (test x) _ _ (all 0 (omega arith)))
 
   pub last_all : (n : ℕ) (xs : List X) → last_failing test n xs ≡ None → AllByRecursion Passes xs
   last_all n [] e = tt

@@ -22,8 +22,8 @@ spot_at front (s ∷ ss) (suc i) d e l =
 
 -- what holds at each spot holds at each way to part the deck, and the other way
 pub at_parting : (P : Spot → Type 0) (front ss : List Station) → AllByRecursion P (spots_from front ss) → (f : List Station) (s : Station) (b : List Station) → ss ≡ f ++ (s ∷ b) → P (spot (front ++ f) s b)
-at_parting P front [] all [] s b e = let z : ◌≡◌ {A = ℕ} 0 1 = cc in absurd (omega arith)
-at_parting P front [] all (x ∷ f) s b e = let z : ◌≡◌ {A = ℕ} 0 1 = cc in absurd (omega arith)
+at_parting P front [] all [] s b e = absurd cc
+at_parting P front [] all (x ∷ f) s b e = absurd cc
 at_parting P front (t ∷ ss) (here, all) [] s b e =
     let p : spot front t ss ≡ spot (front ++ []) s b = let n = append-nil front in cc in
     subst P p here

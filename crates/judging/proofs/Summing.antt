@@ -17,8 +17,8 @@ use Rattle.kinds.specs.Direct.{Above, IsLeast}
 use Rattle.kinds.specs.Folds.{AllLawful}
 use Rattle.kinds.specs.Houses.{house_at}
 use Rattle.kinds.specs.Tests.{below_zero}
-use Rattle.kinds.specs.Ints.{Near, held}
-use Rattle.kinds.specs.Parts.{moments_by}
+use Rattle.kinds.proofs.Ints.{Near, held}
+use Rattle.kinds.proofs.Parts.{moments_by}
 use Rattle.kinds.proofs.Rows.{summary}
 use Rattle.judging.specs.Spots.{spots_from, margin_kept, floor_kept}
 use Rattle.judging.specs.Steps.{place_of, load_of, held_totals}

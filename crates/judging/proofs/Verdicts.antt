@@ -1,11 +1,11 @@
 -- The verdict of the first broken limit is the judgement.
-use Rattle.std.proofs.Common.{◌≡◌, ℕ, true, false, cond, List, Some, None, Option, Result, unwrap_or, refl, ap, ◌∙◌}
+use Rattle.std.proofs.Common.{◌≡◌, ℕ, true, false, cond, List, length, Some, None, Option, Result, unwrap_or, refl, ap, ◌∙◌}
 use Rattle.std.specs.Option.{option_map, option_or}
 use Rattle.std.specs.Result.{result_err}
 use Rattle.book.specs.declared.basic.Basic.{Basic}
 use Rattle.book.specs.declared.station.Station.{Station}
 use Rattle.book.specs.declared.totals.Totals.{Totals}
-use Rattle.book.specs.Refusals.{answer, first_failing}
+use Rattle.book.specs.Refusals.{answer, first_failing, basic_refusal, zone_refusal, frame_refusal}
 use Rattle.book.specs.Sums.{totals_of, tip_kept}
 use Rattle.book.specs.declared.frame.Frame.{Frame}
 use Rattle.book.specs.declared.vertex.Vertex.{Vertex}
@@ -15,7 +15,13 @@ use Rattle.judging.specs.declared.breach.Breach.{Breach}
 use Rattle.judging.specs.declared.breach.Breach.TheVariants.{OverFloor, PastFore, PastAft, OverZone, OverFrame, OutOfTrim, OnItsTail}
 use Rattle.judging.specs.declared.occasion.Occasion.{Occasion}
 use Rattle.judging.specs.declared.occasion.Occasion.TheVariants.{Standing, Stage}
+use Rattle.kinds.specs.declared.kind.Kind.{Ghosts}
+use Rattle.judging.specs.declared.deck.Deck.{Deck}
 use Rattle.judging.specs.Bending.{frame_kept}
+use Rattle.judging.specs.Decks.{Sound}
+use Rattle.judging.specs.Judges.{Judges}
+use Rattle.judging.proofs.Keeping.{code_0_is_kept}
+use Rattle.book.proofs.Shapes.{neither}
 use Rattle.judging.specs.Breaches.{closing_breach, first_breach, verdict}
 use Rattle.judging.specs.Judgement.{zone_kept, point, at_place, closing, broken, judgement}
 use Rattle.judging.specs.Spots.{spots, last_failing, floor_kept, fore_kept, aft_kept}
@@ -41,9 +47,17 @@ err_part : (o : Option Breach) → result_err (answer o (tt {0})) ≡ o
 err_part None = refl
 err_part (Some x) = refl
 
-pub judges : (o : Occasion) (b : Basic) (ss : List Station) (zs : List Zone) (fs : List Frame) (vs : List Vertex) {checked : Result (Unit {0}) Breach} → checked ≡ answer (first_breach o b ss zs fs vs) tt → unwrap_or (option_map verdict (result_err checked)) (0, 0) ≡ judgement o b ss zs fs vs
+judges : (o : Occasion) (b : Basic) (ss : List Station) (zs : List Zone) (fs : List Frame) (vs : List Vertex) {checked : Result (Unit {0}) Breach} → checked ≡ answer (first_breach o b ss zs fs vs) tt → unwrap_or (option_map verdict (result_err checked)) (0, 0) ≡ judgement o b ss zs fs vs
 unfolding judgement
 judges o b ss zs fs vs e =
     ap (λ (r : Result (Unit {0}) Breach). unwrap_or (option_map verdict (result_err r)) (0, 0)) e
     ∙ ap (λ (x : Option Breach). unwrap_or (option_map verdict x) (0, 0)) (err_part (first_breach o b ss zs fs vs))
     ∙ ap (λ (x : Option (ℕ × ℕ)). unwrap_or x (0, 0)) (same o b ss zs fs vs)
+
+-- the verdict of a deck that was checked against every limit is what a call of the judgement answers
+pub judged : {K R : Type 0} (G : Ghosts K R) (b : Basic) (d : Deck K) (zs : List Zone) (fs : List Frame) (vs : List Vertex) (o : Occasion) {r : ℕ × ℕ} {checked : Result (Unit {0}) Breach} → r ≡ unwrap_or (option_map verdict (result_err checked)) (0, 0) → (Sound G d → basic_refusal b ≡ None → zone_refusal (length d.stations.now) zs ≡ None → checked ≡ answer (first_breach o b d.stations.now zs fs vs) tt) → Judges G b d.stations.now d.nodes.now zs fs vs o r
+judged G b d zs fs vs o is says = record {
+  value = λ all basic limits tree.
+      is ∙ judges o b d.stations.now zs fs vs (says (record { lawful = all; tree = tree }) basic (neither (zone_refusal (length d.stations.now) zs) (frame_refusal fs) limits).0);
+  means = code_0_is_kept;
+}

@@ -1,5 +1,5 @@
 -- How the cargo on one side of a frame bends it.
-use Rattle.std.specs.Prelude.{Bool, cond, List, [], ◌∷◌, reverse, ℤ, pos, ◌+ℤ◌, ◌-ℤ◌, ◌*ℤ◌, int_le, int_lt}
+use Rattle.std.specs.Prelude.{Bool, List, [], ◌∷◌, reverse, take_while, ℤ, pos, ◌+ℤ◌, ◌-ℤ◌, ◌*ℤ◌, int_le, int_lt}
 use Rattle.book.specs.declared.station.Station.{Station}
 use Rattle.book.specs.declared.frame.Frame.{Frame}
 use Rattle.book.specs.declared.frame.Side.{Side}
@@ -7,8 +7,7 @@ use Rattle.book.specs.declared.frame.Side.TheVariants.{Fore, Aft}
 
 -- the stations up to the first that does not pass the test: all, where each passes
 abbrev pub front_while : (Station → Bool) → List Station → List Station
-front_while test [] = []
-front_while test (s ∷ ss) = cond (test s) (s ∷ front_while test ss) []
+front_while test ss = take_while test ss
 
 -- those after the last that does not pass it
 abbrev pub back_while : (Station → Bool) → List Station → List Station

@@ -1,5 +1,6 @@
 pub mod Bending
 pub mod Breaches
+pub mod Decks
 pub mod Judgement
 pub mod Judges
 pub mod Kept

@@ -10,7 +10,7 @@ fn at_frame(frame: &Frame, load: &MassMoment) -> i128
     ensures value { result ≡ frame.now.arm *ℤ load.now.mass }
     ensures small { Span result (2 ^ 94) }
 {
-    frame.arm as i128 * load.mass as i128
+    i128::from(frame.arm) * i128::from(load.mass)
 }
 
 // How a load on the frame's side bends it.
@@ -18,8 +18,8 @@ fn bending(frame: &Frame, load: &MassMoment) -> i128
     ensures { result ≡ bent frame.now.side frame.now.arm load.now }
 {
     match frame.side {
-        Side::Fore => at_frame(frame, load) - load.moment as i128,
-        Side::Aft => load.moment as i128 - at_frame(frame, load),
+        Side::Fore => at_frame(frame, load) - i128::from(load.moment),
+        Side::Aft => i128::from(load.moment) - at_frame(frame, load),
     }
 }
 
@@ -27,5 +27,5 @@ fn bending(frame: &Frame, load: &MassMoment) -> i128
 pub(crate) fn bears(frame: &Frame, load: &MassMoment) -> bool
     ensures { result ≡ frame_bears frame.now load.now }
 {
-    bending(frame, load) <= frame.limit as i128
+    bending(frame, load) <= i128::from(frame.limit)
 }

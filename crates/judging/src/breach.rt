@@ -4,7 +4,7 @@ ghost use Rattle.std.specs.Result.{result_err};
 ghost use Rattle.judging.specs.Breaches.{verdict};
 
 // A broken limit, and the station, zone or frame where it is broken.
-#[derive(Clone, Copy)]
+#[derive(Clone, Copy, Debug, PartialEq, Eq)]
 pub(crate) enum Breach {
     // More stands on the station than its floor bears.
     OverFloor { station: usize },
@@ -22,12 +22,12 @@ pub(crate) enum Breach {
     OnItsTail,
 }
 
-impl Breach {
-    // The verdict code and the place.
-    fn verdict(self) -> (u8, usize)
-        ensures { result ≡ verdict self }
-    {
-        match self {
+// The verdict code and the place: a judgement answers these two numbers.
+impl From<Breach> for (u8, usize) {
+    ghost from_gives = { λ breach r. r ≡ verdict breach };
+
+    fn from(breach: Breach) -> (u8, usize) {
+        match breach {
             Breach::OverFloor { station } => (1, station),
             Breach::PastFore { station } => (2, station),
             Breach::PastAft { station } => (3, station),
@@ -43,8 +43,5 @@ impl Breach {
 pub(crate) fn verdict_of(checked: Result<(), Breach>) -> (u8, usize)
     ensures { result ≡ unwrap_or (option_map verdict (result_err checked)) (0, 0) }
 {
-    match checked {
-        Ok(()) => (0, 0),
-        Err(breach) => breach.verdict(),
-    }
+    checked.err().map_or((0, 0), <(u8, usize)>::from)
 }

@@ -1,12 +1,11 @@
-ghost use Rattle.std.specs.Prelude.{◌≡◌, ◌≤◌, List, length, None};
+ghost use Rattle.std.specs.Prelude.{◌≡◌, List, None};
 ghost use Rattle.book.specs.declared.station.Station.{Station};
 ghost use Rattle.book.specs.Refusals.{answer, basic_refusal};
 ghost use Rattle.book.specs.Sums.{totals_of};
-ghost use Rattle.kinds.specs.Folds.{AllLawful};
-ghost use Rattle.kinds.specs.Houses.{house_at};
 ghost use Rattle.book.specs.Envelopes.{polygon};
 ghost use Rattle.book.specs.Polygons.{within};
 ghost use Rattle.judging.specs.Breaches.{closing_breach};
+ghost use Rattle.judging.specs.Decks.{Whole};
 ghost use Rattle.judging.specs.Judgement.{point};
 ghost use Rattle.judging.specs.Steps.{held_totals};
 
@@ -20,16 +19,16 @@ fn with_deck(basic: &Basic, deck: &MassMoment) -> Totals
     ensures { result ≡ held_totals basic.now deck.now }
 {
     Totals {
-        mass: (basic.mass as i64).saturating_add(deck.mass),
+        mass: i64::from(basic.mass).saturating_add(deck.mass),
         moment: basic.moment.saturating_add(deck.moment),
     }
 }
 
 // The totals by the deck's summary.
-fn totals(basic: &Basic, deck: &House) -> Totals
-    ensures { (ss : List Station) → deck.now ≡ house_at 0 ss → AllLawful ss → length ss ≤ 256 → basic_refusal basic.now ≡ None → result ≡ totals_of basic.now ss }
+fn totals(basic: &Basic, house: &House) -> Totals
+    ensures { (ss : List Station) → Whole ss house.now → basic_refusal basic.now ≡ None → result ≡ totals_of basic.now ss }
 {
-    with_deck(basic, &deck.moments)
+    with_deck(basic, &house.moments)
 }
 
 // Whether the envelope holds these totals.
@@ -59,10 +58,10 @@ fn closes(
 pub(crate) fn check_closing(
     occasion: Occasion,
     basic: &Basic,
-    deck: &House,
+    house: &House,
     envelope: &Envelope,
 ) -> Result<(), Breach>
-    ensures { (ss : List Station) → deck.now ≡ house_at 0 ss → AllLawful ss → length ss ≤ 256 → basic_refusal basic.now ≡ None → result ≡ answer (closing_breach occasion basic.now (totals_of basic.now ss) (polygon envelope.now)) tt }
+    ensures { (ss : List Station) → Whole ss house.now → basic_refusal basic.now ≡ None → result ≡ answer (closing_breach occasion basic.now (totals_of basic.now ss) (polygon envelope.now)) tt }
 {
-    closes(occasion, basic, totals(basic, deck), envelope)
+    closes(occasion, basic, totals(basic, house), envelope)
 }

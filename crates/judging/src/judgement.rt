@@ -3,20 +3,22 @@ ghost use Rattle.judging.specs.Judges.{Judges};
 
 use crate::breach::verdict_of;
 use crate::checks::check_all;
+use crate::deck::Deck;
 use crate::occasion::Occasion;
 use book::{Basic, Limits, Station};
 use kinds::Judged;
 
-pub(crate) fn judged<J: Judged>(
+// The verdict of a deck. It stands apart from `judge`, since it needs a lemma: so a wrong occasion is refused at the clause
+// of `judge`, and not in a proof.
+fn judged<J: Judged>(
     basic: &Basic,
-    stations: &[Station],
-    nodes: &[J],
+    deck: &Deck<'_, J>,
     limits: &Limits<'_>,
     occasion: Occasion,
 ) -> (u8, usize)
-    ensures { Judges J.Kind basic.now stations.now nodes.now limits.now.zones.now limits.now.frames.now (polygon limits.now.envelope.now) occasion result }
+    ensures { Judges J.Kind basic.now deck.now.stations.now deck.now.nodes.now limits.now.zones.now limits.now.frames.now (polygon limits.now.envelope.now) occasion result }
 {
-    verdict_of(check_all(basic, stations, nodes, limits, occasion))
+    verdict_of(check_all(basic, deck, limits, occasion))
 }
 
 // The first broken limit, by its code and its place: 1 a floor, 2 a fore limit and 3 an aft limit (at a station), 4 a
@@ -31,5 +33,5 @@ pub fn judge<J: Judged>(
 ) -> (u8, usize)
     ensures { Judges J.Kind basic.now stations.now nodes.now limits.now.zones.now limits.now.frames.now (polygon limits.now.envelope.now) occasion result }
 {
-    judged(basic, stations, nodes, limits, occasion)
+    judged(basic, &Deck { stations, nodes }, limits, occasion)
 }

@@ -21,22 +21,20 @@ fn is_aft(station: &Station, frame: &Frame) -> bool
 pub(crate) fn ahead_ends(stations: &[Station], frame: &Frame) -> usize
     ensures { result ≡ count_ahead frame.now stations.now }
 {
-    for (i, station) in stations.iter().enumerate() {
-        if !is_ahead(station, frame) {
-            return i;
-        }
-    }
-    stations.len()
+    stations
+        .iter()
+        .take_while(|station| is_ahead(station, frame))
+        .count()
 }
 
 // Where the stations aft of the frame begin, looked for from the tail.
 pub(crate) fn aft_begins(stations: &[Station], frame: &Frame) -> usize
     ensures { result ≡ length stations.now - count_aft frame.now stations.now }
 {
-    for i in (0..stations.len()).rev() {
-        if !is_aft(&stations[i], frame) {
-            return i + 1;
-        }
-    }
-    0
+    let aft = stations
+        .iter()
+        .rev()
+        .take_while(|station| is_aft(station, frame))
+        .count();
+    stations.len() - aft
 }

@@ -1,4 +1,4 @@
-use Rattle.std.proofs.Common.{refl, ap, ◌∙◌}
+use Rattle.std.proofs.Common.{ap, ◌∙◌}
 use Rattle.kinds.specs.declared.house.House.{House}
 use Rattle.kinds.specs.declared.mass_moment.MassMoment.{MassMoment}
 use Rattle.judging.specs.Judgement.{zone_stations}
@@ -7,8 +7,7 @@ use Rattle.judging.proofs.Summing.{house_load}
 use Rattle.judging.proofs.zones.keeps.Goals as goal
 
 pub returns : goal.returns
-returns g c tree le =
-    let ss = c.args.stations.now in
+returns g c sound le =
     let zone = c.args.zone.now in
     c.bears.ensures
-    ∙ ap (λ (m : MassMoment). zone_bears zone m) (ap (λ (h : House). h.moments) (c.house_of-house.ensures ss refl le tree) ∙ house_load zone.from (zone_stations zone ss))
+    ∙ ap (λ (m : MassMoment). zone_bears zone m) (ap (λ (h : House). h.moments) (c.part.ensures sound le) ∙ house_load zone.from (zone_stations zone c.args.deck.now.stations.now))
