@@ -1,6 +1,7 @@
 -- One stage of the definition is one step: on to the next record, or the end.
-use Rattle.std.proofs.Common.{◌≡◌, ℕ, zero, suc, ◌+◌, ◌<◌, ◌≤◌, Bool, true, false, cond, eqb, ltb, leb, List, length, drop, Some, None, Ok, Err, Option, Result, sym, refl, ap, ◌∙◌, subst, true≢false, arith}
-use Rattle.std.proofs.lemmas.Bool.{cond-true, cond-false, le-leb, lt-leb, lt-ltb, le-ltb}
+use Rattle.std.proofs.Common.{◌≡◌, ℕ, zero, suc, ◌+◌, ◌<◌, ◌≤◌, Bool, true, false, cond, eqb, leb, List, length, drop, Some, None, Ok, Err, Option, Result, sym, refl, ap, ◌∙◌, subst, arith}
+use Rattle.std.proofs.lemmas.Bool.{cond-false, lt-leb}
+use Rattle.std.proofs.lemmas.Bool.Decides.{nat_tests}
 use Rattle.std.specs.Result.{result_err}
 use Rattle.records.specs.declared.call.Call.{Call}
 use Rattle.records.specs.declared.call.Call.TheVariants.{Load, Unload, Shift, Change}
@@ -21,59 +22,38 @@ use Rattle.edits.specs.declared.fault.SheetFault.TheVariants.{TooManyStages}
 use Rattle.edits.specs.Edits.{edited, edit_refusal}
 use Rattle.stages.specs.declared.ending.Ending.{Ending}
 use Rattle.stages.specs.declared.ending.Ending.TheVariants.{AllKept, Broken, Refused}
-use Rattle.stages.specs.declared.step.Step.{Step}
-use Rattle.stages.specs.declared.step.Step.TheVariants.{Next, End}
 use Rattle.stages.specs.Plans.{number_refusal, of_record, unless, planned}
 use Rattle.stages.specs.Staging.{after_checks, after_record, ending_from}
 use Rattle.stages.specs.Steps.{step_of, Ready, JudgedAfter, Stepped}
 use Rattle.stages.proofs.Masses.{only_self}
 
-abbrev is_end : Step → Bool
-is_end (Next at) = false
-is_end (End e) = true
-
-abbrev place : Step → ℕ
-place (Next at) = at
-place (End e) = 0
-
-abbrev last : Ending → Step → Ending
-last d (Next at) = d
-last d (End e) = e
-
 -- a step, with what follows it
-abbrev pub follow : Step → (ℕ → Ending) → Ending
-follow (Next at) rest = rest at
-follow (End e) rest = e
+abbrev pub follow : Result ℕ Ending → (ℕ → Ending) → Ending
+follow (Ok at) rest = rest at
+follow (Err e) rest = e
 
-end_next : {e : Ending} {n : ℕ} → End e ≡ Next n → ⊥
-end_next is = true≢false (ap is_end is)
+cond_next : (t : Bool) (e : Ending) (next n : ℕ) → cond t (Ok next) (Err e) ≡ Ok n → next ≡ n
+cond_next true e next n is = cc
+cond_next false e next n is = cc
 
-cond_next : (t : Bool) (e : Ending) (next n : ℕ) → cond t (Next next) (End e) ≡ Next n → next ≡ n
-cond_next true e next n is = ap place is
-cond_next false e next n is = absurd (end_next is)
-
-went : (stage next n : ℕ) (j : Result (ℕ × ℕ) SheetFault) → step_of stage next j ≡ Next n → result_err j ≡ None
+went : (stage next n : ℕ) (j : Result (ℕ × ℕ) SheetFault) → step_of stage next j ≡ Ok n → result_err j ≡ None
 went stage next n (Ok v) is = refl
-went stage next n (Err f) is = absurd (end_next is)
+went stage next n (Err f) is = cc
 
-whither : (stage next n : ℕ) (j : Result (ℕ × ℕ) SheetFault) → step_of stage next j ≡ Next n → next ≡ n
+whither : (stage next n : ℕ) (j : Result (ℕ × ℕ) SheetFault) → step_of stage next j ≡ Ok n → next ≡ n
 whither stage next n (Ok v) is = cond_next (eqb v.0 0) (Broken stage v.0 v.1) next n is
-whither stage next n (Err f) is = absurd (end_next is)
+whither stage next n (Err f) is = cc
 
-cond_follow : (t : Bool) (e : Ending) (next : ℕ) (rest : ℕ → Ending) → cond t (rest next) e ≡ follow (cond t (Next next) (End e)) rest
+cond_follow : (t : Bool) (e : Ending) (next : ℕ) (rest : ℕ → Ending) → cond t (rest next) e ≡ follow (cond t (Ok next) (Err e)) rest
 cond_follow true e next rest = refl
 cond_follow false e next rest = refl
 
 -- the number of a stage
 in_number : (stage : ℕ) (p : Result (Edit × ℕ) SheetFault) → stage < 256 → unless (number_refusal stage) p ≡ p
-in_number stage p lt = ap (λ (o : Option SheetFault). unless o p) (cond-true (ltb stage 256) None (Some TooManyStages) (lt-ltb stage 256 lt))
+in_number stage p lt = grind (arith, nat_tests)
 
 past_number : (stage : ℕ) (p : Result (Edit × ℕ) SheetFault) → 256 ≤ stage → unless (number_refusal stage) p ≡ Err TooManyStages
-past_number stage p le = ap (λ (o : Option SheetFault). unless o p) (cond-false (ltb stage 256) None (Some TooManyStages) (le-ltb stage 256 le))
-
-abbrev fault_of : SheetFault → Result (Edit × ℕ) SheetFault → SheetFault
-fault_of d (Ok p) = d
-fault_of d (Err f) = f
+past_number stage p le = grind (arith, nat_tests)
 
 module _ (b : Basic) (zs : List Zone) (fs : List Frame) (vs : List Vertex) (bytes : List ℕ) where
   -- what follows what a stage is to carry out
@@ -111,19 +91,19 @@ module _ (b : Basic) (zs : List Zone) (fs : List Frame) (vs : List Vertex) (byte
       ∙ ap (λ (p : Result (Edit × ℕ) SheetFault). after_plan stage ss p (ending_from b zs fs vs bytes more (suc stage))) (sym (in_number stage (of_record bytes at found) low))
 
   pub shut : (stage at : ℕ) (ss : List Station) → at < length bytes → ending_from b zs fs vs bytes zero stage at ss ≡ Refused stage TooManyStages
-  shut stage at ss lt = cond-false (leb (length bytes) at) AllKept (Refused stage TooManyStages) (lt-leb (length bytes) at lt)
+  shut stage at ss lt = grind (arith, nat_tests)
 
   -- no bytes left
   pub all_kept : (stage at more : ℕ) (ss : List Station) → length bytes ≤ at → ending_from b zs fs vs bytes more stage at ss ≡ AllKept
-  all_kept stage at zero ss le = cond-true (leb (length bytes) at) AllKept _ (le-leb (length bytes) at le)
-  all_kept stage at (suc more) ss le = cond-true (leb (length bytes) at) AllKept _ (le-leb (length bytes) at le)
+  all_kept stage at zero ss le = grind (arith, nat_tests)
+  all_kept stage at (suc more) ss le = grind (arith, nat_tests)
 
   -- a stage whose record or number is refused
   refused_ends : (stage at more : ℕ) (ss : List Station) (f : SheetFault) → planned stage bytes at ≡ Err f → at < length bytes → stage + more ≡ 256 → ending_from b zs fs vs bytes more stage at ss ≡ Refused stage f
   refused_ends stage at zero ss f is lt count =
       let high : 256 ≤ stage = omega arith in
-      shut stage at ss lt
-      ∙ ap (λ (p : Result (Edit × ℕ) SheetFault). Refused stage (fault_of TooManyStages p)) (sym (past_number stage (of_record bytes at (record_in (drop at bytes) at)) high) ∙ is)
+      let past = past_number stage (of_record bytes at (record_in (drop at bytes) at)) high in
+      shut stage at ss lt ∙ cc
   refused_ends stage at (suc more) ss f is lt count =
       opened stage at more ss lt count ∙ ap (λ (p : Result (Edit × ℕ) SheetFault). after_plan stage ss p (ending_from b zs fs vs bytes more (suc stage))) is
 
@@ -137,31 +117,31 @@ module _ (b : Basic) (zs : List Zone) (fs : List Frame) (vs : List Vertex) (byte
       ∙ by_checks stage next (edit_refusal ss e) (judgement Stage b (edited e ss) zs fs vs) (λ n. rest n (edited e ss))
 
   module _ {K R : Type 0} (G : Ghosts K R) (stage at : ℕ) (ss : List Station) (nodes : List K) where
-    pub stepped_refused : (f : SheetFault) → Err f ≡ planned stage bytes at → Stepped G b zs fs vs bytes stage at ss nodes (End (Refused stage f)) ss nodes
+    pub stepped_refused : (f : SheetFault) → Err f ≡ planned stage bytes at → Stepped G b zs fs vs bytes stage at ss nodes (Err (Refused stage f)) ss nodes
     stepped_refused f is = record {
       only = only_self G ss nodes;
-      further = λ next e. absurd (end_next e);
-      goes = λ next more e. absurd (end_next e);
-      ends = λ x more e ready lt count. refused_ends stage at more ss f (sym is) lt count ∙ ap (last AllKept) e;
+      further = λ next e. cc;
+      goes = λ next more e. cc;
+      ends = λ x more e ready lt count. refused_ends stage at more ss f (sym is) lt count ∙ cc;
     }
 
     module _ (e : Edit) (next : ℕ) (is : Ok (e, next) ≡ planned stage bytes at) (later : (stage < 256) × (at < next)) (j : Result (ℕ × ℕ) SheetFault) (ss' : List Station) (nodes' : List K) (judged : JudgedAfter G b zs fs vs ss nodes e j ss' nodes') where
-      by_step : (r : Step) (more : ℕ) → step_of stage next j ≡ r → Ready G b zs fs vs ss nodes → at < length bytes → stage + suc more ≡ 256 → ending_from b zs fs vs bytes (suc more) stage at ss ≡ follow r (λ n. ending_from b zs fs vs bytes more (suc stage) n (edited e ss))
+      by_step : (r : Result ℕ Ending) (more : ℕ) → step_of stage next j ≡ r → Ready G b zs fs vs ss nodes → at < length bytes → stage + suc more ≡ 256 → ending_from b zs fs vs bytes (suc more) stage at ss ≡ follow r (λ n. ending_from b zs fs vs bytes more (suc stage) n (edited e ss))
       by_step r more step ready lt count =
           opened_step stage at more next ss e (sym is) lt count
           ∙ ap (λ (x : Result (ℕ × ℕ) SheetFault). follow (step_of stage next x) (λ n. ending_from b zs fs vs bytes more (suc stage) n (edited e ss))) (sym (judged.value ready))
-          ∙ ap (λ (x : Step). follow x (λ n. ending_from b zs fs vs bytes more (suc stage) n (edited e ss))) step
+          ∙ ap (λ (x : Result ℕ Ending). follow x (λ n. ending_from b zs fs vs bytes more (suc stage) n (edited e ss))) step
 
-      by_end : (x : Ending) (more : ℕ) → step_of stage next j ≡ End x → Ready G b zs fs vs ss nodes → at < length bytes → stage + more ≡ 256 → ending_from b zs fs vs bytes more stage at ss ≡ x
+      by_end : (x : Ending) (more : ℕ) → step_of stage next j ≡ Err x → Ready G b zs fs vs ss nodes → at < length bytes → stage + more ≡ 256 → ending_from b zs fs vs bytes more stage at ss ≡ x
       by_end x zero step ready lt count = let low = later.0 in absurd (omega arith)
-      by_end x (suc more) step ready lt count = by_step (End x) more step ready lt count
+      by_end x (suc more) step ready lt count = by_step (Err x) more step ready lt count
 
       pub stepped : Stepped G b zs fs vs bytes stage at ss nodes (step_of stage next j) ss' nodes'
       stepped = record {
         only = judged.only;
         further = λ n step. (later.0, subst (λ (x : ℕ). at < x) (whither stage next n j step) later.1);
         goes = λ n more step ready lt count.
-            by_step (Next n) more step ready lt count
+            by_step (Ok n) more step ready lt count
             ∙ ap (λ (xs : List Station). ending_from b zs fs vs bytes more (suc stage) n xs) (sym (judged.done (went stage next n j step)));
         ends = by_end;
       }

@@ -1,5 +1,5 @@
 -- An edit carried out, and the deck after it judged.
-use Rattle.std.proofs.Common.{◌≡◌, ℕ, true, List, length, None, Ok, Err, Option, Result, sym, refl, ap, ◌∙◌, subst}
+use Rattle.std.proofs.Common.{◌≡◌, ℕ, true, List, length, None, Ok, Option, Result, sym, refl, ap, ◌∙◌, subst}
 use Rattle.std.proofs.lemmas.Bool.{eq-eqb}
 use Rattle.std.specs.Option.{option_or}
 use Rattle.std.specs.Result.{result_err}
@@ -19,7 +19,6 @@ use Rattle.edits.specs.declared.edit.Edit.{Edit}
 use Rattle.edits.specs.declared.fault.SheetFault.{SheetFault}
 use Rattle.edits.specs.Carrying.{Carried}
 use Rattle.edits.specs.Edits.{edited, edit_refusal, memory_refusal}
-use Rattle.edits.proofs.Carries.{some_none}
 use Rattle.stages.specs.Steps.{Ready, JudgedAfter}
 use Rattle.stages.proofs.Masses.{only_carried}
 
@@ -31,13 +30,6 @@ module _ {K R : Type 0} (G : Ghosts K R) (b : Basic) (zs : List Zone) (fs : List
   edit_only : {r : Result (Unit {0}) SheetFault} → Carried G (length ss) ss nodes e r ss' nodes' → Ready G b zs fs vs ss nodes → result_err r ≡ edit_refusal ss e
   edit_only carried ready =
       carried.refuses ∙ ap (λ (o : Option SheetFault). option_or o (edit_refusal ss e)) (memory_fits (length ss) (length nodes) ready.tree.fitting)
-
-  pub judged_refused : (f : SheetFault) → Carried G (length ss) ss nodes e (Err f) ss' nodes' → JudgedAfter G b zs fs vs ss nodes e (Err f) ss' nodes'
-  judged_refused f carried = record {
-    only = only_carried G carried;
-    done = λ none. absurd (some_none none);
-    value = λ ready. ap (λ (o : Option SheetFault). answer o (judgement Stage b (edited e ss) zs fs vs)) (edit_only carried ready);
-  }
 
   pub judged_done : (v : ℕ × ℕ) → Carried G (length ss) ss nodes e (Ok tt) ss' nodes' → Judges G b ss' nodes' zs fs vs Stage v → JudgedAfter G b zs fs vs ss nodes e (Ok v) ss' nodes'
   judged_done v carried judges = record {

@@ -1,7 +1,7 @@
 -- Edits change masses only.
-use Rattle.std.proofs.Common.{◌≡◌, ℕ, ◌+◌, ◌-◌, ◌/◌, ◌<◌, ◌≤◌, ◌≢◌, List, length, is_some, Some, None, Option, Result, sym, refl, ap, ◌∙◌, subst, ⊎_elim, arith}
-use Rattle.std.proofs.lemmas.List.{length-set, get_or-set_same, get_or-set_other, set_past}
-use Rattle.std.proofs.lemmas.Bool.{cases_lt, cases_eq}
+use Rattle.std.proofs.Common.{◌≡◌, ℕ, ◌+◌, ◌-◌, ◌/◌, List, length, is_some, Some, None, Option, Result, sym, refl, ap, ◌∙◌, subst, arith}
+use Rattle.std.proofs.lemmas.List.{length-set}
+use Rattle.std.proofs.lemmas.Grind.{common_steps}
 use Rattle.std.specs.Result.{result_err}
 use Rattle.book.specs.declared.station.Station.{Station}
 use Rattle.kinds.specs.declared.kind.Kind.{Ghosts}
@@ -9,7 +9,7 @@ use Rattle.tree.specs.Trees.{Above}
 use Rattle.edits.specs.declared.edit.Edit.{Edit}
 use Rattle.edits.specs.declared.fault.SheetFault.{SheetFault}
 use Rattle.edits.specs.Carrying.{AboveNamed, Carried}
-use Rattle.edits.specs.Edits.{nowhere, station_at, with_mass, put, lighter, heavier, edited}
+use Rattle.edits.specs.Edits.{station_at, with_mass, put, lighter, heavier, edited}
 use Rattle.stages.specs.Steps.{Alike, OnlyMasses}
 
 pub alike_self : (ss : List Station) → Alike ss ss
@@ -23,16 +23,7 @@ alike_then first second = record {
 
 -- the record at station j after a mass was put at station k
 put_same : (ss : List Station) (k mass j m : ℕ) → with_mass (station_at (put ss k mass) j) m ≡ with_mass (station_at ss j) m
-put_same ss k mass j m =
-    let s = with_mass (station_at ss k) mass in
-    ⊎_elim
-    (λ (lt : k < length ss).
-    ⊎_elim
-    (λ (e : j ≡ k). ap (λ (i : ℕ). with_mass (station_at (put ss k mass) i) m) e ∙ ap (λ (t : Station). with_mass t m) (get_or-set_same ss k s nowhere lt) ∙ ap (λ (i : ℕ). with_mass (station_at ss i) m) (sym e))
-    (λ (ne : j ≢ k). ap (λ (t : Station). with_mass t m) (get_or-set_other ss k j s nowhere ne))
-    (cases_eq j k))
-    (λ (past : length ss ≤ k). ap (λ (xs : List Station). with_mass (station_at xs j) m) (set_past ss k s past))
-    (cases_lt k (length ss))
+put_same ss k mass j m = grind (arith, common_steps)
 
 pub alike_put : (ss : List Station) (k mass : ℕ) → Alike ss (put ss k mass)
 alike_put ss k mass = record { long = length-set ss k _; same = put_same ss k mass }

@@ -1,5 +1,5 @@
 -- Stages that all keep their limits are records of calls, each carried out on the deck that the one before it left.
-use Rattle.std.proofs.Common.{◌≡◌, ℕ, zero, suc, ◌+◌, ◌-◌, ◌<◌, ◌≤◌, Bool, true, false, cond, eqb, List, [], ◌∷◌, ◌++◌, length, drop, Some, None, Ok, Err, Option, Result, sym, refl, ap, ◌∙◌, subst, ⊎_elim, true≢false, arith, length-append, length-drop}
+use Rattle.std.proofs.Common.{◌≡◌, ℕ, zero, suc, ◌+◌, ◌-◌, ◌<◌, ◌≤◌, Bool, true, false, cond, eqb, List, [], ◌∷◌, ◌++◌, length, drop, Some, None, Ok, Err, Option, Result, sym, refl, ap, ◌∙◌, subst, ⊎_elim, arith, length-append, length-drop}
 use lib.Seq.{drop-append_seam}
 use Rattle.std.proofs.lemmas.List.{drop_all, drop-drop}
 use Rattle.std.proofs.lemmas.Bool.{cases_lt, eqb-true}
@@ -21,24 +21,13 @@ use Rattle.edits.specs.declared.edit.Edit.{Edit}
 use Rattle.edits.specs.declared.fault.SheetFault.{SheetFault}
 use Rattle.edits.specs.Edits.{edited, edit_refusal}
 use Rattle.stages.specs.declared.ending.Ending.{Ending}
-use Rattle.stages.specs.declared.ending.Ending.TheVariants.{AllKept, Broken, Refused}
+use Rattle.stages.specs.declared.ending.Ending.TheVariants.{AllKept, Broken}
 use Rattle.stages.specs.Meaning.{encodings, AreBytes, KeptStage, KeptStages, AllStagesKept, StagesMean}
 use Rattle.stages.specs.Plans.{of_record}
 use Rattle.stages.specs.Staging.{after_checks, ending_from, ending}
 use Rattle.stages.proofs.Following.{after_plan, opened_record, shut, all_kept}
 use Rattle.stages.proofs.Asking.{from_call, to_call}
 use Rattle.stages.proofs.Encodings.{bytes_from, bytes_small, small_encodings, some_bytes}
-
-abbrev is_kept : Ending → Bool
-is_kept AllKept = true
-is_kept (Broken stage code place) = false
-is_kept (Refused stage fault) = false
-
-refused_kept : {stage : ℕ} {f : SheetFault} → Refused stage f ≡ AllKept → ⊥
-refused_kept e = true≢false (sym (ap is_kept e))
-
-broken_kept : {stage code place : ℕ} → Broken stage code place ≡ AllKept → ⊥
-broken_kept e = true≢false (sym (ap is_kept e))
 
 module _ (b : Basic) (zs : List Zone) (fs : List Frame) (vs : List Vertex) (bytes : List ℕ) (all : AreBytes bytes) where
   exactly : (at : ℕ) → Exactly (drop at bytes) at (record_in (drop at bytes) at)
@@ -59,19 +48,19 @@ module _ (b : Basic) (zs : List Zone) (fs : List Frame) (vs : List Vertex) (byte
     pub on : rest next (edited edit ss) ≡ AllKept
 
   checks_accept : (stage : ℕ) (o : Option SheetFault) (v : ℕ × ℕ) (x : Ending) → after_checks b zs fs vs bytes stage o v x ≡ AllKept → o ≡ None
-  checks_accept stage (Some f) v x is = absurd (refused_kept is)
+  checks_accept stage (Some f) v x is = cc
   checks_accept stage None v x is = refl
 
   cond_kept : (t : Bool) (x : Ending) (stage code place : ℕ) → cond t x (Broken stage code place) ≡ AllKept → (t ≡ true) × (x ≡ AllKept)
   cond_kept true x stage code place is = (refl, is)
-  cond_kept false x stage code place is = absurd (broken_kept is)
+  cond_kept false x stage code place is = cc
 
   checks_keep : (stage : ℕ) (o : Option SheetFault) (v : ℕ × ℕ) (x : Ending) → after_checks b zs fs vs bytes stage o v x ≡ AllKept → (eqb v.0 0 ≡ true) × (x ≡ AllKept)
-  checks_keep stage (Some f) v x is = absurd (refused_kept is)
+  checks_keep stage (Some f) v x is = cc
   checks_keep stage None v x is = cond_kept (eqb v.0 0) x stage v.0 v.1 is
 
   passed_on : (stage : ℕ) (ss : List Station) (p : Result (Edit × ℕ) SheetFault) (rest : ℕ → List Station → Ending) → after_plan b zs fs vs bytes stage ss p rest ≡ AllKept → PassedOn stage ss p rest
-  passed_on stage ss (Err f) rest is = absurd (refused_kept is)
+  passed_on stage ss (Err f) rest is = cc
   passed_on stage ss (Ok p) rest is =
       let e = p.0 in
       let said = checks_keep stage (edit_refusal ss e) (judgement Stage b (edited e ss) zs fs vs) (rest p.1 (edited e ss)) is in
@@ -111,7 +100,7 @@ module _ (b : Basic) (zs : List Zone) (fs : List Frame) (vs : List Vertex) (byte
   kept_from : (more stage at : ℕ) (ss : List Station) → ending_from b zs fs vs bytes more stage at ss ≡ AllKept → KeptFrom more at ss
   kept_from zero stage at ss is =
       ⊎_elim
-      (λ (lt : at < length bytes). absurd (refused_kept (sym (shut b zs fs vs bytes stage at ss lt) ∙ is)))
+      (λ (lt : at < length bytes). let out = shut b zs fs vs bytes stage at ss lt in cc)
       (λ (past : length bytes ≤ at). none_from zero at ss past)
       (cases_lt at (length bytes))
   kept_from (suc more) stage at ss is =

@@ -1,34 +1,27 @@
 -- Masses put back one by one, until the records are those that were.
-use Rattle.std.proofs.Common.{◌≡◌, ℕ, ◌+◌, ◌<◌, ◌≤◌, false, not, ◌&&◌, eqb, ltb, ◌≢◌, List, length, sym, refl, ap, ◌∙◌, subst, ⊎_elim, arith}
+use Rattle.std.proofs.Common.{◌≡◌, ℕ, ◌+◌, ◌<◌, ◌≤◌, List, length, get_or, sym, ap, ◌∙◌, subst, arith}
 use Rattle.std.proofs.ByRecursion.{All-get_or, All-set}
-use Rattle.std.proofs.lemmas.List.{get_or-set_same, get_or-set_other, set_past, set-get_or, get_or_default, same_lists}
-use Rattle.std.proofs.lemmas.Bool.{cases_eq, and_cases, not-false, ltb-false, eqb-true}
+use Rattle.std.proofs.lemmas.List.{get_or_default, length-map, same_lists}
+use Rattle.std.proofs.Math.ListN.{get_or-map}
+use Rattle.std.proofs.lemmas.Grind.{common_steps}
 use Rattle.book.specs.declared.station.Station.{Station}
 use Rattle.book.specs.Fields.{Lawful}
 use Rattle.kinds.specs.declared.kind.Kind.{Ghosts}
 use Rattle.kinds.specs.Folds.{AllLawful}
 use Rattle.tree.specs.Trees.{SegmentTree}
 use Rattle.edits.specs.Carrying.{Put}
-use Rattle.edits.specs.Edits.{nowhere, station_at, with_mass, put}
-use Rattle.stages.specs.Steps.{Alike}
+use Rattle.edits.specs.Edits.{nowhere, station_at, with_mass}
+use Rattle.stages.specs.Steps.{Alike, masses}
 use Rattle.stages.proofs.Masses.{alike_then, alike_put}
 
--- a station's own mass put at it
-own_mass : (ss : List Station) (k : ℕ) → put ss k (station_at ss k).mass ≡ ss
-own_mass ss k = set-get_or ss k nowhere
+-- the mass that was at a station
+pub mass_was : (was : List Station) (aboard : List ℕ) (k : ℕ) → aboard ≡ masses was → get_or aboard k 0 ≡ (station_at was k).mass
+mass_was was aboard k is = ap (λ (l : List ℕ). get_or l k 0) is ∙ get_or-map (λ (s : Station). s.mass) was k nowhere
 
--- nothing to put back
-pub already : (ss : List Station) (k mass : ℕ) → false ≡ (ltb k (length ss) && not (eqb (station_at ss k).mass mass)) → put ss k mass ≡ ss
-already ss k mass out =
-    ⊎_elim
-    (λ (past : ltb k (length ss) ≡ false). set_past ss k _ (ltb-false k (length ss) past))
-    (λ (same : not (eqb (station_at ss k).mass mass) ≡ false). ap (put ss k) (sym (eqb-true (station_at ss k).mass mass (not-false _ same))) ∙ own_mass ss k)
-    (and_cases (ltb k (length ss)) (not (eqb (station_at ss k).mass mass)) (sym out))
+pub long_was : (was : List Station) (aboard : List ℕ) → aboard ≡ masses was → length aboard ≡ length was
+long_was was aboard is = ap length is ∙ length-map was (λ (s : Station). s.mass)
 
 module _ {K R : Type 0} (G : Ghosts K R) where
-  pub put_nothing : (ss : List Station) (nodes : List K) (k mass : ℕ) → put ss k mass ≡ ss → Put G ss nodes k mass ss nodes
-  put_nothing ss nodes k mass same = record { stations = sym same; tree = λ lawful t. t; beside = λ i d out. refl; long = refl }
-
   module _ (was ss : List Station) (nodes : List K) where
     -- the records before k are those that were
     pub record BackTo (k : ℕ) (ss' : List Station) (nodes' : List K) : Type 0 where
@@ -37,14 +30,6 @@ module _ {K R : Type 0} (G : Ghosts K R) where
       pub lawful : AllLawful was → AllLawful ss → AllLawful ss'
       pub tree : AllLawful was → AllLawful ss → SegmentTree G nodes ss → SegmentTree G nodes' ss'
 
-    pub back_none : Alike was ss → BackTo 0 ss nodes
-    back_none alike = record {
-      alike = alike;
-      back = λ j lt. absurd (omega arith);
-      lawful = λ first all. all;
-      tree = λ first all t. t;
-    }
-
     module _ (k mass : ℕ) (ss1 : List Station) (nodes1 : List K) (ss2 : List Station) (nodes2 : List K) (so_far : BackTo k ss1 nodes1) (is : mass ≡ (station_at was k).mass) (more : Put G ss1 nodes1 k mass ss2 nodes2) (lt : k < length was) where
       one : with_mass (station_at ss1 k) mass ≡ station_at was k
       one = so_far.alike.same k mass ∙ ap (with_mass (station_at was k)) is
@@ -52,11 +37,13 @@ module _ {K R : Type 0} (G : Ghosts K R) where
       room : k < length ss1
       room = subst (λ (n : ℕ). k < n) (sym so_far.alike.long) lt
 
-      here : station_at ss2 k ≡ station_at was k
-      here = ap (λ (xs : List Station). station_at xs k) more.stations ∙ get_or-set_same ss1 k _ nowhere room ∙ one
-
-      there : (j : ℕ) → j ≢ k → j < k + 1 → station_at ss2 j ≡ station_at was j
-      there j ne low = let below : j < k = omega (arith, ne) in ap (λ (xs : List Station). station_at xs j) more.stations ∙ get_or-set_other ss1 k j _ nowhere ne ∙ so_far.back j below
+      back_here : (j : ℕ) → j < k + 1 → station_at ss2 j ≡ station_at was j
+      back_here j low =
+          let put_at = more.stations in
+          let own = one in
+          let lt1 = room in
+          let before = so_far.back j in
+          grind (arith, common_steps)
 
       good : AllLawful was → AllLawful ss → AllLawful ss2
       good first all =
@@ -66,7 +53,7 @@ module _ {K R : Type 0} (G : Ghosts K R) where
       pub back_more : BackTo (k + 1) ss2 nodes2
       back_more = record {
         alike = alike_then so_far.alike (subst (Alike ss1) (sym more.stations) (alike_put ss1 k mass));
-        back = λ j low. ⊎_elim (λ (e : j ≡ k). subst (λ (i : ℕ). station_at ss2 i ≡ station_at was i) (sym e) here) (λ (ne : j ≢ k). there j ne low) (cases_eq j k);
+        back = back_here;
         lawful = good;
         tree = λ first all t. more.tree (good first all) (so_far.tree first all t);
       }

@@ -1,5 +1,6 @@
 -- A run of stages, so far.
-use Rattle.std.proofs.Common.{◌≡◌, ℕ, suc, ◌+◌, ◌-◌, ◌<◌, ◌≤◌, List, length, None, sym, ap, ◌∙◌, subst, arith}
+use Rattle.std.proofs.Common.{◌≡◌, ℕ, suc, ◌+◌, ◌-◌, ◌<◌, ◌≤◌, List, length, None, Ok, Err, Result, sym, ap, ◌∙◌, subst, ⊎_elim, add-one, arith}
+use Rattle.std.proofs.lemmas.Bool.{cases_lt}
 use Rattle.book.specs.declared.basic.Basic.{Basic}
 use Rattle.book.specs.declared.station.Station.{Station}
 use Rattle.kinds.specs.declared.kind.Kind.{Ghosts}
@@ -9,10 +10,8 @@ use Rattle.book.specs.declared.zone.Zone.{Zone}
 use Rattle.book.specs.Refusals.{limits_refusal}
 use Rattle.stages.specs.declared.ending.Ending.{Ending}
 use Rattle.stages.specs.declared.ending.Ending.TheVariants.{AllKept}
-use Rattle.stages.specs.declared.step.Step.{Step}
-use Rattle.stages.specs.declared.step.Step.TheVariants.{Next, End}
 use Rattle.stages.specs.Staging.{ending_from, ending}
-use Rattle.stages.specs.Steps.{OnlyMasses, Ready, Stepped, Ran}
+use Rattle.stages.specs.Steps.{OnlyMasses, Ready, Turned, Ran}
 use Rattle.stages.proofs.Following.{all_kept}
 use Rattle.stages.proofs.Masses.{only_self, only_then}
 
@@ -39,32 +38,46 @@ module _ {K R : Type 0} (G : Ghosts K R) (b : Basic) (zs : List Zone) (fs : List
     pub far_none : SoFar 0 0 ss nodes
     far_none = record { few = omega arith; only = only_self G ss nodes; leads = λ ready more count. at_first more (omega arith) }
 
-    module _ (stage at : ℕ) (ss1 : List Station) (nodes1 : List K) (far : SoFar stage at ss1 nodes1) where
-      pub far_done : length bytes ≤ at → Ran G b zs fs vs bytes ss nodes AllKept ss1 nodes1
-      far_done past = record {
-        only = far.only;
-        value = λ ready.
-            let few = far.few in
-            sym (all_kept b zs fs vs bytes stage at (256 - stage) ss1 past) ∙ far.leads ready (256 - stage) (omega arith);
-      }
+    module _ (stage at : ℕ) (ss1 : List Station) (nodes1 : List K) (far : SoFar stage at ss1 nodes1) (r : Result ℕ Ending) (ss2 : List Station) (nodes2 : List K) (turn : Turned G b zs fs vs bytes stage at ss1 nodes1 r ss2 nodes2) where
+      -- no record is left
+      stops_past : (e : Ending) → r ≡ Err e → length bytes ≤ at → Ran G b zs fs vs bytes ss nodes e ss2 nodes2
+      stops_past e is past =
+          let (kept, same, still) = turn.past past in
+          let few = far.few in
+          let all : e ≡ AllKept = cc in
+          rw (all, same, still) record {
+            only = far.only;
+            value = λ ready. sym (all_kept b zs fs vs bytes stage at (256 - stage) ss1 past) ∙ far.leads ready (256 - stage) (omega arith);
+          }
 
-      module _ (r : Step) (ss2 : List Station) (nodes2 : List K) (step : Stepped G b zs fs vs bytes stage at ss1 nodes1 r ss2 nodes2) (lt : at < length bytes) where
-        pub far_stops : (e : Ending) → r ≡ End e → Ran G b zs fs vs bytes ss nodes e ss2 nodes2
-        far_stops e is = record {
-          only = only_then G far.only step.only;
-          value = λ ready.
-              let few = far.few in
-              let count : stage + (256 - stage) ≡ 256 = omega arith in
-              sym (step.ends e (256 - stage) is (ready_then far.only ready) lt count) ∙ far.leads ready (256 - stage) count;
-        }
+      stops_there : (e : Ending) → r ≡ Err e → at < length bytes → Ran G b zs fs vs bytes ss nodes e ss2 nodes2
+      stops_there e is lt =
+          let step = turn.there lt in
+          let few = far.few in
+          let count : stage + (256 - stage) ≡ 256 = omega arith in
+          record {
+            only = only_then G far.only step.only;
+            value = λ ready. sym (step.ends e (256 - stage) is (ready_then far.only ready) lt count) ∙ far.leads ready (256 - stage) count;
+          }
 
-        pub far_more : (next : ℕ) → r ≡ Next next → SoFar (suc stage) next ss2 nodes2
-        far_more next is =
-            let low = (step.further next is).0 in
-            record {
-              few = omega arith;
-              only = only_then G far.only step.only;
-              leads = λ ready more count.
-                  let count' : stage + suc more ≡ 256 = omega arith in
-                  sym (step.goes next more is (ready_then far.only ready) lt count') ∙ far.leads ready (suc more) count';
-            }
+      pub far_stops : (e : Ending) → r ≡ Err e → Ran G b zs fs vs bytes ss nodes e ss2 nodes2
+      far_stops e is = ⊎_elim (stops_there e is) (stops_past e is) (cases_lt at (length bytes))
+
+      -- going on, a record was there
+      was_there : (next : ℕ) → r ≡ Ok next → at < length bytes
+      was_there next is =
+          ⊎_elim (λ (lt : at < length bytes). lt) (λ (past : length bytes ≤ at). let kept = (turn.past past).0 in absurd cc) (cases_lt at (length bytes))
+
+      pub far_more : (next : ℕ) → r ≡ Ok next → SoFar (stage + 1) next ss2 nodes2
+      far_more next is =
+          let lt = was_there next is in
+          let step = turn.there lt in
+          let low = (step.further next is).0 in
+          rw add-one
+          record {
+            few = omega arith;
+            only = only_then G far.only step.only;
+            leads = λ ready more count.
+                let count' : stage + suc more ≡ 256 = omega arith in
+                sym (step.goes next more is (ready_then far.only ready) lt count') ∙ far.leads ready (suc more) count';
+          }

@@ -1,5 +1,5 @@
 -- What one stage, a run of stages and the taking back leave in station and node memory.
-use Rattle.std.specs.Prelude.{◌≡◌, ℕ, suc, ◌+◌, ◌<◌, cond, List, length, None, Ok, Err, Result, ◌==◌, slice_index_or}
+use Rattle.std.specs.Prelude.{◌≡◌, ℕ, suc, ◌+◌, ◌<◌, ◌≤◌, cond, List, length, map, None, Ok, Err, Result, ◌==◌, slice_index_or}
 use Rattle.std.specs.Result.{result_err}
 use Rattle.book.specs.declared.basic.Basic.{Basic}
 use Rattle.book.specs.declared.station.Station.{Station}
@@ -17,15 +17,17 @@ use Rattle.edits.specs.declared.edit.Edit.{Edit}
 use Rattle.edits.specs.declared.fault.SheetFault.{SheetFault}
 use Rattle.edits.specs.Edits.{edited, edit_refusal, station_at, with_mass}
 use Rattle.stages.specs.declared.ending.Ending.{Ending}
-use Rattle.stages.specs.declared.ending.Ending.TheVariants.{Broken, Refused}
-use Rattle.stages.specs.declared.step.Step.{Step}
-use Rattle.stages.specs.declared.step.Step.TheVariants.{Next, End}
+use Rattle.stages.specs.declared.ending.Ending.TheVariants.{AllKept, Broken, Refused}
 use Rattle.stages.specs.Staging.{ending_from, ending}
 
 -- a stage by its verdict or its refusal: on to the next record, or the end
-abbrev pub step_of : ℕ → ℕ → Result (ℕ × ℕ) SheetFault → Step
-step_of stage next (Err f) = End (Refused stage f)
-step_of stage next (Ok v) = cond (v.0 == 0) (Next next) (End (Broken stage v.0 v.1))
+abbrev pub step_of : ℕ → ℕ → Result (ℕ × ℕ) SheetFault → Result ℕ Ending
+step_of stage next (Err f) = Err (Refused stage f)
+step_of stage next (Ok v) = cond (v.0 == 0) (Ok next) (Err (Broken stage v.0 v.1))
+
+-- the mass at each station
+abbrev pub masses : List Station → List ℕ
+masses ss = map (λ (s : Station). s.mass) ss
 
 -- the same records but for their masses
 pub record Alike (was ss : List Station) : Type 0 where
@@ -62,11 +64,16 @@ module _ {K R : Type 0} (G : Ghosts K R) where
 
     module _ (bytes : List ℕ) where
       -- one stage, of a record that is there
-      pub record Stepped (stage at : ℕ) (ss : List Station) (nodes : List K) (r : Step) (ss' : List Station) (nodes' : List K) : Type 0 where
+      pub record Stepped (stage at : ℕ) (ss : List Station) (nodes : List K) (r : Result ℕ Ending) (ss' : List Station) (nodes' : List K) : Type 0 where
         pub only : OnlyMasses ss nodes ss' nodes'
-        pub further : (next : ℕ) → r ≡ Next next → (stage < 256) × (at < next)
-        pub goes : (next more : ℕ) → r ≡ Next next → Ready ss nodes → at < length bytes → stage + suc more ≡ 256 → ending_from b zs fs vs bytes (suc more) stage at ss ≡ ending_from b zs fs vs bytes more (suc stage) next ss'
-        pub ends : (e : Ending) (more : ℕ) → r ≡ End e → Ready ss nodes → at < length bytes → stage + more ≡ 256 → ending_from b zs fs vs bytes more stage at ss ≡ e
+        pub further : (next : ℕ) → r ≡ Ok next → (stage < 256) × (at < next)
+        pub goes : (next more : ℕ) → r ≡ Ok next → Ready ss nodes → at < length bytes → stage + suc more ≡ 256 → ending_from b zs fs vs bytes (suc more) stage at ss ≡ ending_from b zs fs vs bytes more (suc stage) next ss'
+        pub ends : (e : Ending) (more : ℕ) → r ≡ Err e → Ready ss nodes → at < length bytes → stage + more ≡ 256 → ending_from b zs fs vs bytes more stage at ss ≡ e
+
+      -- the next stage where a record is left, and else the end
+      pub record Turned (stage at : ℕ) (ss : List Station) (nodes : List K) (r : Result ℕ Ending) (ss' : List Station) (nodes' : List K) : Type 0 where
+        pub there : at < length bytes → Stepped stage at ss nodes r ss' nodes'
+        pub past : length bytes ≤ at → (r ≡ Err AllKept) × (ss' ≡ ss) × (nodes' ≡ nodes)
 
       -- the stages one by one
       pub record Ran (ss : List Station) (nodes : List K) (r : Ending) (ss' : List Station) (nodes' : List K) : Type 0 where

@@ -7,7 +7,6 @@ mod ending;
 mod plan;
 mod run;
 mod stage;
-mod staging;
 mod step;
 
 pub use call::stages;
