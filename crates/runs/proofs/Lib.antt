@@ -1,4 +1,3 @@
 pub mod Histories
 pub mod Everywhere
 pub mod Replays
-pub mod Sketches

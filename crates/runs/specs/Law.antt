@@ -78,9 +78,13 @@ module _ {K R T : Type 0} (G : Ghosts K R) (meets : T → R → Bool) where
   abbrev pub run_refusal : ℕ → ℕ → Option SheetFault → Option Unrun
   run_refusal room asked refusal = cond (nat_le asked room) (option_map Refused refusal) (Some NoRoom)
 
-  -- opening a sheet on records and carrying out calls
-  pub record Replayed (b : Basic) (ss : List Station) (nodes : List K) (cs : List (Call T)) (before : List (Answer K)) (r : Result Sheet Unrun) (ss' : List Station) (nodes' : List K) (after : List (Answer K)) : Type 0 where
+  -- opening a sheet on records and carrying out a list of anything that is asked as calls, on anything that reads as a sheet
+  pub record Begun {C S : Type 0} (asked : List C → List (Call T)) (sheet : S → Sheet) (b : Basic) (ss : List Station) (nodes : List K) (cs : List C) (before : List (Answer K)) (r : Result S Unrun) (ss' : List Station) (nodes' : List K) (after : List (Answer K)) : Type 0 where
     pub refuses : result_err r ≡ run_refusal (length before) (length cs) (opening_refusal b ss (length nodes))
     pub untouched : is_some (result_err r) ≡ true → (ss' ≡ ss) × (nodes' ≡ nodes) × (after ≡ before)
-    pub ran : (last : Sheet) → r ≡ Ok last → Ran b ss cs after last ss' nodes'
+    pub ran : (last : S) → r ≡ Ok last → Ran b ss (asked cs) after (sheet last) ss' nodes'
     pub always : EveryStep
+
+  -- opening a sheet on records and carrying out calls
+  abbrev pub Replayed : Basic → List Station → List K → List (Call T) → List (Answer K) → Result Sheet Unrun → List Station → List K → List (Answer K) → Type 0
+  Replayed = Begun (λ calls. calls) (λ sheet. sheet)

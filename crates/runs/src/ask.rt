@@ -1,4 +1,5 @@
 // A call that needs no judging, so that any kind of summary can answer it.
+// Its forms stand in `Call` too: a `Call` that held an `Ask` would have each caller name both.
 #[derive(Clone, Copy)]
 pub enum Ask<T> {
     Load { station: usize, kg: u32 },

@@ -1,12 +1,18 @@
+ghost use Rattle.std.specs.Prelude.{◌≡◌};
+ghost use Rattle.std.proofs.Common.{sym};
+ghost use Rattle.std.proofs.lemmas.List.{map-id};
+ghost use Rattle.sheet.specs.declared.states.Sheet.TheVariants.{InPlanning};
 ghost use Rattle.sheet.specs.Memory.{numbers_of, state_of, Sound, Step};
 ghost use Rattle.sheet.specs.Tally.{planning, released};
 
 use crate::said::{edit_said, first_said, judge_said, range_said, stages_said};
+use crate::steps::Steps;
 use book::Station;
 use kinds::{Judged, Kind, Test};
-use sheet::{Answer, Call, Planning, Released, Sheet};
+use sheet::{Answer, Call, Inspect, Planning, Released, Sheet};
 
-// A call on a planning sheet: the sheet after it, and its answer.
+// A call on a planning sheet: the sheet after it, and its answer. The call is read through its loan, since a test
+// need not be `Copy`.
 fn plan<'a, T: Test>(
     sheet: Planning,
     stations: &mut [Station],
@@ -31,15 +37,14 @@ where
                 Err((sheet, fault)) => (Sheet::InPlanning(sheet), Answer::Refused(fault)),
             };
         }
-        Call::Change { .. } => Answer::NotAdmitted,
-        Call::Reopen => Answer::NotAdmitted,
+        Call::Change { .. } | Call::Reopen => Answer::NotAdmitted,
     };
     (Sheet::InPlanning(sheet), answer)
 }
 
 // A call on a released sheet: the sheet after it, and its answer.
 fn keep<'a, T: Test>(
-    sheet: Released,
+    mut sheet: Released,
     stations: &mut [Station],
     nodes: &mut [T::Of],
     call: &Call<'a, T>,
@@ -48,7 +53,6 @@ where
     T::Of: Judged,
     ensures { Sound T.Of.Kind sheet.numbers stations.old nodes.old → Step T.Of.Kind T.Test.meets sheet.numbers released stations.old nodes.old call.now result.1 (numbers_of result.0) (state_of result.0) stations.new nodes.new }
 {
-    let mut sheet = sheet;
     let answer = match call {
         Call::Range { from, to } => range_said(sheet.range(stations, nodes, *from, *to)),
         Call::First { test } => first_said(sheet.first(stations, nodes, test)),
@@ -60,28 +64,45 @@ where
                 Err((sheet, fault)) => (Sheet::InRelease(sheet), Answer::Refused(fault)),
             };
         }
-        Call::Load { .. } => Answer::NotAdmitted,
-        Call::Unload { .. } => Answer::NotAdmitted,
-        Call::Shift { .. } => Answer::NotAdmitted,
-        Call::Stages { .. } => Answer::NotAdmitted,
-        Call::Release { .. } => Answer::NotAdmitted,
+        Call::Load { .. }
+        | Call::Unload { .. }
+        | Call::Shift { .. }
+        | Call::Stages { .. }
+        | Call::Release { .. } => Answer::NotAdmitted,
     };
     (Sheet::InRelease(sheet), answer)
 }
 
-// A call on a sheet in either state.
-pub(crate) fn carry<'a, T: Test>(
-    sheet: Sheet,
-    stations: &mut [Station],
-    nodes: &mut [T::Of],
-    call: &Call<'a, T>,
-) -> (Sheet, Answer<T::Of>)
+// Any call, on a sheet in either state.
+impl<'a, T: Test> Steps<T, Call<'a, T>> for Sheet
 where
     T::Of: Judged,
-    ensures { Sound T.Of.Kind (numbers_of sheet) stations.old nodes.old → Step T.Of.Kind T.Test.meets (numbers_of sheet) (state_of sheet) stations.old nodes.old call.now result.1 (numbers_of result.0) (state_of result.0) stations.new nodes.new }
 {
-    match sheet {
-        Sheet::InPlanning(sheet) => plan(sheet, stations, nodes, call),
-        Sheet::InRelease(sheet) => keep(sheet, stations, nodes, call),
+    ghost sheet = { λ sheet. sheet };
+
+    ghost one = { λ call. call };
+
+    ghost asked = { λ calls. calls };
+
+    ghost each = { λ calls. sym (map-id calls) };
+
+    fn planned(opened: Planning) -> Sheet
+        ensures { result ≡ InPlanning opened }
+    {
+        Sheet::InPlanning(opened)
+    }
+
+    fn step(
+        self,
+        stations: &mut [Station],
+        nodes: &mut [T::Of],
+        call: &Call<'a, T>,
+    ) -> (Sheet, Answer<T::Of>)
+        ensures { Sound T.Of.Kind (numbers_of self) stations.old nodes.old → Step T.Of.Kind T.Test.meets (numbers_of self) (state_of self) stations.old nodes.old call.now result.1 (numbers_of result.0) (state_of result.0) stations.new nodes.new }
+    {
+        match self {
+            Sheet::InPlanning(sheet) => plan(sheet, stations, nodes, call),
+            Sheet::InRelease(sheet) => keep(sheet, stations, nodes, call),
+        }
     }
 }

@@ -1,15 +1,43 @@
+ghost use Rattle.std.specs.Prelude.{map, refl};
 ghost use Rattle.runs.specs.Drafts.{call_of};
+ghost use Rattle.sheet.specs.declared.states.Sheet.TheVariants.{InPlanning};
 ghost use Rattle.sheet.specs.Memory.{Sound, Step};
 ghost use Rattle.sheet.specs.Tally.{planning};
 
 use crate::ask::Ask;
 use crate::said::{edit_said, first_said, range_said};
+use crate::steps::Steps;
 use book::Station;
 use kinds::{Kind, Test};
-use sheet::{Answer, Planning};
+use sheet::{Answer, Inspect, Planning};
+
+// Calls that need no judging, on a planning sheet of any kind.
+impl<T: Test> Steps<T, Ask<T>> for Planning {
+    ghost sheet = { InPlanning };
+
+    ghost one = { call_of };
+
+    ghost asked = { map call_of };
+
+    ghost each = { λ asks. refl };
+
+    fn planned(opened: Planning) -> Planning {
+        opened
+    }
+
+    fn step(
+        self,
+        stations: &mut [Station],
+        nodes: &mut [T::Of],
+        asked: &Ask<T>,
+    ) -> (Planning, Answer<T::Of>) {
+        let answer = ask(&self, stations, nodes, asked);
+        (self, answer)
+    }
+}
 
 // A call that needs no judging, on a planning sheet of any kind.
-pub(crate) fn ask<T: Test>(
+fn ask<T: Test>(
     sheet: &Planning,
     stations: &mut [Station],
     nodes: &mut [T::Of],

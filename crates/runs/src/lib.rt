@@ -4,10 +4,10 @@
 mod ask;
 mod carrying;
 mod draft;
-mod drafting;
 mod replaying;
 mod running;
 mod said;
+mod steps;
 mod unrun;
 
 pub use ask::Ask;

@@ -3,9 +3,8 @@ ghost use Rattle.runs.specs.Law.{Replayed};
 ghost use Rattle.sheet.specs.Memory.{numbers_of, state_of, Sound, Step};
 
 use crate::ask::Ask;
-use crate::carrying::carry;
-use crate::drafting::drafted;
-use crate::running::replayed;
+use crate::running::run;
+use crate::steps::Steps;
 use crate::unrun::Unrun;
 use book::{Basic, Station};
 use kinds::{Judged, Kind, Test};
@@ -22,7 +21,7 @@ where
     T::Of: Judged,
     ensures { Sound T.Of.Kind (numbers_of sheet) stations.old nodes.old → Step T.Of.Kind T.Test.meets (numbers_of sheet) (state_of sheet) stations.old nodes.old call.now result.1 (numbers_of result.0) (state_of result.0) stations.new nodes.new }
 {
-    carry(sheet, stations, nodes, call)
+    sheet.step(stations, nodes, call)
 }
 
 // Opens a sheet on the masses aboard, carries out any list of calls in order, and hands out each answer.
@@ -37,7 +36,7 @@ where
     T::Of: Judged,
     ensures { Replayed T.Of.Kind T.Test.meets basic stations.old nodes.old calls.now answers.old result stations.new nodes.new answers.new }
 {
-    replayed(stations, nodes, basic, calls, answers)
+    run::<T, _, _>(stations, nodes, basic, calls, answers)
 }
 
 // The same for a sheet of any kind, with calls that need no judging.
@@ -50,5 +49,5 @@ pub fn replay_draft<T: Test>(
 ) -> Result<Planning, Unrun>
     ensures { Drafted T.Of.Kind T.Test.meets basic stations.old nodes.old asks.now answers.old result stations.new nodes.new answers.new }
 {
-    drafted(stations, nodes, basic, asks, answers)
+    run::<T, _, _>(stations, nodes, basic, asks, answers)
 }

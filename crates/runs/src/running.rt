@@ -1,52 +1,44 @@
-ghost use Rattle.std.specs.Prelude.{◌≤◌, true, length, take};
-ghost use Rattle.runs.specs.Law.{RunFrom, Replayed};
+ghost use Rattle.std.specs.Prelude.{◌≤◌, length, take};
+ghost use Rattle.runs.specs.Law.{RunFrom, Begun};
 ghost use Rattle.sheet.specs.Memory.{numbers_of, state_of, Sound};
 
-use crate::carrying::carry;
+use crate::steps::Steps;
 use crate::unrun::Unrun;
 use book::{Basic, Station};
-use kinds::{Judged, Kind, Test};
-use sheet::{Answer, Call, Planning, Sheet};
+use kinds::{Kind, Test};
+use sheet::{Answer, Planning};
 
-// Carries out calls in order, and hands out each answer.
-fn go_on<'a, T: Test>(
-    sheet: Sheet,
+// Carries out calls in order, and hands out each answer. The answers are written by index: under a `zip` with
+// `iter_mut` the proof knows nothing of them.
+fn go_on<T: Test, C, S: Steps<T, C>>(
+    mut sheet: S,
     stations: &mut [Station],
     nodes: &mut [T::Of],
-    calls: &[Call<'a, T>],
+    calls: &[C],
     answers: &mut [Answer<T::Of>],
-) -> Sheet
-where
-    T::Of: Judged,
+) -> S
     requires { length calls.now ≤ length answers.old }
-    ensures { Sound T.Of.Kind (numbers_of sheet) stations.old nodes.old → RunFrom T.Of.Kind T.Test.meets (numbers_of sheet) (state_of sheet) stations.old calls.now (take (length calls.now) answers.new) (numbers_of result) (state_of result) stations.new nodes.new }
+    ensures { Sound T.Of.Kind (numbers_of (S.sheet sheet)) stations.old nodes.old → RunFrom T.Of.Kind T.Test.meets (numbers_of (S.sheet sheet)) (state_of (S.sheet sheet)) stations.old (S.asked calls.now) (take (length calls.now) answers.new) (numbers_of (S.sheet result)) (state_of (S.sheet result)) stations.new nodes.new }
 {
-    let mut sheet = sheet;
     for (i, call) in calls.iter().enumerate() {
-        let (next, answer) = carry(sheet, stations, nodes, call);
-        sheet = next;
-        answers[i] = answer;
+        (sheet, answers[i]) = sheet.step(stations, nodes, call);
     }
     sheet
 }
 
 // Opens a sheet and carries out calls.
-pub(crate) fn replayed<'a, T: Test>(
+pub(crate) fn run<T: Test, C, S: Steps<T, C>>(
     stations: &mut [Station],
     nodes: &mut [T::Of],
     basic: Basic,
-    calls: &[Call<'a, T>],
+    calls: &[C],
     answers: &mut [Answer<T::Of>],
-) -> Result<Sheet, Unrun>
-where
-    T::Of: Judged,
-    ensures { Replayed T.Of.Kind T.Test.meets basic stations.old nodes.old calls.now answers.old result stations.new nodes.new answers.new }
+) -> Result<S, Unrun>
+    ensures { Begun T.Of.Kind T.Test.meets S.asked S.sheet basic stations.old nodes.old calls.now answers.old result stations.new nodes.new answers.new }
 {
     if calls.len() > answers.len() {
         return Err(Unrun::NoRoom);
     }
-    match Planning::open(stations, nodes, basic) {
-        Ok(sheet) => Ok(go_on(Sheet::InPlanning(sheet), stations, nodes, calls, answers)),
-        Err(fault) => Err(Unrun::Refused(fault)),
-    }
+    let opened = Planning::open(stations, nodes, basic)?;
+    Ok(go_on(S::planned(opened), stations, nodes, calls, answers))
 }

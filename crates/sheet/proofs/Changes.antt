@@ -96,10 +96,3 @@ module _ {K R : Type 0} (G : Ghosts K R) (m : Numbers) (ss : List Station) (node
           × (m.used + nat_abs kg ≤ m.basic.allowance → AllLimitsKept m (edited (changing k kg) ss) l → told G c ≡ Ok tt)
       exactly (Ok used) own fine clear = (λ ok. let (a, b, d) = all_passed (sym own) in (b, d), λ within kept. refl)
       exactly (Err f) own fine clear = (λ ok. absurd (true≢false (ap is_err ok)), λ within kept. absurd (some_none (own ∙ none_refuses fine clear within kept)))
-
--- the same from what a change promises
-pub step_change_told : {K R T : Type 0} (G : Ghosts K R) (meets : T → R → Bool) (m : Numbers) (ss : List Station) (nodes : List K) (l : Limits) (k : ℕ) (kg : ℤ) (r : Result (Unit {0}) SheetFault) (m' : Numbers) (ss' : List Station) (nodes' : List K) →
-    Changed G m ss nodes l k kg r m' ss' nodes' → Sound G m ss nodes → Step G meets m released ss nodes (Change l (record { station = k; kg = kg })) (edit_answer r) m' released ss' nodes'
-step_change_told G meets m ss nodes l k kg r m' ss' nodes' changed sound =
-    let (c, is, spent, any) = changed.any in
-    rw (is, spent) (step_change G m ss nodes l k kg ss' nodes' meets c any sound)

@@ -1,59 +1,28 @@
 -- A change of a station's mass: what stands, and what is taken back.
-use Rattle.std.proofs.Common.{◌≡◌, ℕ, ◌+◌, ◌-◌, ◌/◌, ◌<◌, Bool, true, false, cond, ltb, leb, List, length, get_or, set, ℤ, pos, nat_abs, is_some, is_err, Some, None, Ok, Err, Option, Result, sym, refl, ap, ◌∙◌, subst, ⊎_elim, true≢false}
+use Rattle.std.proofs.Common.{◌≡◌, ℕ, ◌+◌, ◌-◌, ◌/◌, ◌<◌, true, false, cond, ltb, leb, List, length, get_or, set, ℤ, pos, nat_abs, is_some, is_err, Some, None, Ok, Err, Option, Result, sym, refl, ap, ◌∙◌, subst, ⊎_elim, true≢false}
 use lib.Signed.{le_z}
 use Rattle.std.proofs.lemmas.List.{get_or-set_same, set-set, set-get_or}
 use Rattle.std.proofs.lemmas.Bool.{cases_Bool, cond-true, cond-false, ltb-true}
+use Rattle.std.proofs.lemmas.Option.{same_Some}
 use Rattle.std.specs.Option.{option_or}
 use Rattle.std.specs.Result.{result_err}
 use Rattle.book.specs.declared.station.Station.{Station}
-use Rattle.book.specs.Refusals.{answer}
 use Rattle.book.specs.declared.limits.Limits.{Limits}
-use Rattle.book.specs.Envelopes.{polygon}
-use Rattle.book.specs.Refusals.{limits_refusal}
 use Rattle.kinds.specs.declared.kind.Kind.{Ghosts}
 use Rattle.kinds.specs.Folds.{AllLawful}
 use Rattle.tree.specs.Trees.{Above, SegmentTree}
-use Rattle.tree.proofs.Refusing.{ok_same}
-use Rattle.judging.specs.declared.occasion.Occasion.TheVariants.{Standing}
-use Rattle.judging.specs.Judgement.{judgement}
-use Rattle.judging.specs.Judges.{Judges}
 use Rattle.edits.specs.declared.fault.SheetFault.{SheetFault}
-use Rattle.edits.specs.declared.fault.SheetFault.TheVariants.{Book, NoStation, OverAllowance, Breaks}
+use Rattle.edits.specs.declared.fault.SheetFault.TheVariants.{NoStation, OverAllowance, Breaks}
 use Rattle.edits.specs.declared.edit.Edit.{Edit}
 use Rattle.edits.specs.Carrying.{AboveNamed, Put, Carried}
 use Rattle.edits.specs.Edits.{nowhere, station_at, with_mass, put, loading, unloading, edited, absent, edit_refusal, memory_refusal}
-use Rattle.edits.proofs.Carries.{refused_by, some_none, first_none, test_held}
+use Rattle.edits.proofs.Carries.{some_none, first_none, test_held}
 use Rattle.sheet.specs.declared.numbers.Numbers.{Numbers}
 use Rattle.sheet.specs.Memory.{tally, Sound}
 use Rattle.sheet.specs.Tally.{released, changing, refusal_by, verdict_by, broken_by, change_refusal}
 use Rattle.sheet.specs.Weighing.{bad_limits, brought_refusal, Settled, Corrected}
-use Rattle.sheet.proofs.Openings.{none_from_mapped}
-use Rattle.sheet.proofs.Stepping.{length_edited, some_same}
+use Rattle.sheet.proofs.Stepping.{length_edited}
 use Rattle.sheet.proofs.Verdicts.{only_limits}
-
-allowed : {X F : Type 0} (b : Bool) (x u : X) (f : F) → ◌≡◌ {A = Result X F} (Ok u) (cond b (Ok x) (Err f)) → (b ≡ true) × (u ≡ x)
-allowed b x u f e =
-    ⊎_elim
-    (λ (t : b ≡ true). (t, ok_same (e ∙ cond-true b (Ok x) (Err f) t)))
-    (λ (n : b ≡ false). absurd (true≢false (sym (ap is_err (e ∙ cond-false b (Ok x) (Err f) n)))))
-    (cases_Bool b)
-
-module _ {K R : Type 0} (G : Ghosts K R) (m : Numbers) (ss : List Station) (nodes : List K) (l : Limits) (kg : ℕ) where
-  pub settled_by : (used : ℕ) (v : ℕ × ℕ) (r : Result ℕ SheetFault) → Ok used ≡ cond (leb (m.used + kg) m.basic.allowance) (Ok (m.used + kg)) (Err OverAllowance) →
-      Judges G m.basic ss nodes l.zones.now l.frames.now (polygon l.envelope.now) Standing v → r ≡ answer (broken_by Breaks v) used → Settled G m ss nodes l kg r
-  settled_by used v r within judges is =
-      let (fits, sum) = allowed (leb (m.used + kg) m.basic.allowance) (m.used + kg) used OverAllowance within in
-      record {
-        done = λ u ok. ends (broken_by Breaks v) u (sym is ∙ ok) ∙ sum;
-        own = λ sound fine.
-            ap result_err is ∙ refused_by (broken_by Breaks v) used
-            ∙ ap (broken_by Breaks) (judges.value sound.lawful sound.basic (none_from_mapped Book (limits_refusal (length ss) l.zones.now l.frames.now) fine) sound.tree)
-            ∙ sym (ap (λ (o : Option SheetFault). option_or o (broken_by Breaks (judgement Standing m.basic ss l.zones.now l.frames.now (polygon l.envelope.now)))) (cond-true (leb (m.used + kg) m.basic.allowance) None (Some OverAllowance) fits));
-      }
-    where
-      ends : (o : Option SheetFault) (u : ℕ) → answer o used ≡ Ok u → u ≡ used
-      ends None u e = sym (ok_same e)
-      ends (Some f) u e = absurd (true≢false (ap is_err e))
 
 err_some : {X F : Type 0} (r : Result X F) → is_some (result_err r) ≡ true → is_err r ≡ true
 err_some (Ok x) e = absurd (true≢false (sym e))
@@ -106,7 +75,7 @@ module _ {K R : Type 0} (G : Ghosts K R) (m : Numbers) (ss : List Station) (node
   -- refused by what was brought
   pub corrected_unbrought : (f : SheetFault) → brought_refusal m (length ss) (length nodes) l ≡ Some f → Corrected G m ss nodes l k kg (Err f) ss nodes
   corrected_unbrought f is = record {
-    refuses = λ g which. ap Err (some_same (sym (ap (λ (o : Option SheetFault). option_or o (edit_refusal ss asked_edit)) is) ∙ which));
+    refuses = λ g which. ap Err (same_Some _ _ (sym (ap (λ (o : Option SheetFault). option_or o (edit_refusal ss asked_edit)) is) ∙ which));
     done = λ u ok. absurd (true≢false (ap is_err ok));
     untouched = λ _. refl;
     own = λ sound. sym (ap (λ (o : Option SheetFault). option_or o (option_or (edit_refusal ss asked_edit) (option_or (cond (leb (m.used + nat_abs kg) m.basic.allowance) None (Some OverAllowance)) (broken_by Breaks (verdict_by l (tally m released ss) (edited asked_edit ss)))))) (sym (only_limits G m ss nodes l released sound) ∙ is));
@@ -124,7 +93,7 @@ module _ {K R : Type 0} (G : Ghosts K R) (m : Numbers) (ss : List Station) (node
         let which : edit_refusal ss asked_edit ≡ Some f = sym (any.refuses ∙ ap (λ (o : Option SheetFault). option_or o (edit_refusal ss asked_edit)) own_memory_too) in
         let (stations, nodes_too) = any.untouched refl in
         record {
-          refuses = λ g is. ap Err (some_same (sym which ∙ sym (ap (λ (o : Option SheetFault). option_or o (edit_refusal ss asked_edit)) none) ∙ is));
+          refuses = λ g is. ap Err (same_Some _ _ (sym which ∙ sym (ap (λ (o : Option SheetFault). option_or o (edit_refusal ss asked_edit)) none) ∙ is));
           done = λ u ok. absurd (true≢false (ap is_err ok));
           untouched = λ _. stations;
           own = λ sound.

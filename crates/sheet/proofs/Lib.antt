@@ -1,4 +1,3 @@
-pub mod Checks
 pub mod Openings
 pub mod Stepping
 pub mod Verdicts

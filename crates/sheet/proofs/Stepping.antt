@@ -1,6 +1,7 @@
 -- Each call on the sheet's own memory is a step of the tally.
-use Rattle.std.proofs.Common.{◌≡◌, ℕ, zero, suc, ◌+◌, ◌-◌, ◌<◌, ◌≤◌, Bool, true, false, ◌&&◌, eqb, ◌≢◌, List, length, Some, None, Ok, Err, Option, Result, unwrap_or, sym, refl, ap, ◌∙◌, subst, ⊎_elim, arith}
+use Rattle.std.proofs.Common.{◌≡◌, ℕ, zero, suc, ◌+◌, ◌-◌, ◌<◌, ◌≤◌, Bool, true, false, ◌&&◌, eqb, ◌≢◌, List, length, Some, None, Ok, Err, Option, Result, sym, refl, ap, ◌∙◌, subst, ⊎_elim, arith, add-one}
 use Rattle.std.proofs.lemmas.List.{length-set}
+use Rattle.std.proofs.lemmas.Option.{same_Some}
 use Rattle.std.proofs.lemmas.Bool.{eq-eqb, and_from, cond-true, cases_eq}
 use Rattle.std.specs.Option.{option_or}
 use Rattle.std.specs.Result.{result_err}
@@ -44,12 +45,6 @@ length_edited e ss = heavier_long e.onto (lighter e.off e.kg ss) ∙ lighter_lon
     heavier_long None xs = refl
     heavier_long (Some k) xs = length-set xs k _
 
-pub some_same : {X : Type 0} {x y : X} → ◌≡◌ {A = Option X} (Some x) (Some y) → x ≡ y
-some_same {X} {x} {y} e = ap (λ (o : Option X). unwrap_or o x) e
-
-one_more : (i : ℕ) → i + 1 ≡ suc i
-one_more i = omega arith
-
 -- the least number from `from` on and below `end` of which a test holds, or none
 abbrev Least : (ℕ → Bool) → ℕ → ℕ → Option ℕ → Type 0
 Least holds from end None = (i : ℕ) → from ≤ i → i < end → holds i ≡ false
@@ -59,9 +54,9 @@ module _ {K R T : Type 0} (G : Ghosts K R) (meets : T → R → Bool) where
   -- what a planning sheet answers to a call for an edit, and what is left where it is done
   asks : (m : Numbers) (ss : List Station) (e : Edit) (c : Call T) → edit_of c ≡ Some e →
       (answer G meets (tally m planning ss) c ≡ unless (edit_refusal ss e) Done) × (done G meets (tally m planning ss) c ≡ tally m planning (edited e ss))
-  asks m ss e (Load station kg) is = let h = some_same is in (ap (λ (x : Edit). unless (edit_refusal ss x) Done) h, ap (λ (x : Edit). tally m planning (edited x ss)) h)
-  asks m ss e (Unload station kg) is = let h = some_same is in (ap (λ (x : Edit). unless (edit_refusal ss x) Done) h, ap (λ (x : Edit). tally m planning (edited x ss)) h)
-  asks m ss e (Shift from to kg) is = let h = some_same is in (ap (λ (x : Edit). unless (edit_refusal ss x) Done) h, ap (λ (x : Edit). tally m planning (edited x ss)) h)
+  asks m ss e (Load station kg) is = let h = same_Some _ _ is in (ap (λ (x : Edit). unless (edit_refusal ss x) Done) h, ap (λ (x : Edit). tally m planning (edited x ss)) h)
+  asks m ss e (Unload station kg) is = let h = same_Some _ _ is in (ap (λ (x : Edit). unless (edit_refusal ss x) Done) h, ap (λ (x : Edit). tally m planning (edited x ss)) h)
+  asks m ss e (Shift from to kg) is = let h = same_Some _ _ is in (ap (λ (x : Edit). unless (edit_refusal ss x) Done) h, ap (λ (x : Edit). tally m planning (edited x ss)) h)
   asks m ss e (Range from to) is = absurd (some_none (sym is))
   asks m ss e (calls.First test) is = absurd (some_none (sym is))
   asks m ss e (calls.Judge l) is = absurd (some_none (sym is))
@@ -145,18 +140,14 @@ module _ {K R T : Type 0} (G : Ghosts K R) (meets : T → R → Bool) where
   step_first m state ss nodes test r any sound = by_result r (any.refuses ∙ own_memory G m ss nodes sound) (λ o ok. any.first o ok sound.lawful sound.tree)
     where
       least : (o : Option ℕ) → FirstMet G (meets test) ss o → o ≡ first_met G meets test ss
-      least None h = least_is_first (λ k. meets test (part G 0 (suc k) ss)) (length ss) 0 None (λ i from to. subst (λ (x : ℕ). meets test (part G 0 x ss) ≡ false) (one_more i) (h i (omega arith)))
+      least None h = least_is_first (λ k. meets test (part G 0 (suc k) ss)) (length ss) 0 None (λ i from to. subst (λ (x : ℕ). meets test (part G 0 x ss) ≡ false) (add-one i) (h i (omega arith)))
       least (Some i) (within, met, before) =
           least_is_first (λ k. meets test (part G 0 (suc k) ss)) (length ss) 0 (Some i)
-          (omega arith, omega arith, subst (λ (x : ℕ). meets test (part G 0 x ss) ≡ true) (one_more i) met, λ j low high. subst (λ (x : ℕ). meets test (part G 0 x ss) ≡ false) (one_more j) (before j high))
+          (omega arith, omega arith, subst (λ (x : ℕ). meets test (part G 0 x ss) ≡ true) (add-one i) met, λ j low high. subst (λ (x : ℕ). meets test (part G 0 x ss) ≡ false) (add-one j) (before j high))
 
       by_result : (r : Result (Option ℕ) SheetFault) → result_err r ≡ None → ((o : Option ℕ) → r ≡ Ok o → FirstMet G (meets test) ss o) → Step G meets m state ss nodes (calls.First test) (first_answer r) m state ss nodes
       by_result (Ok o) is met = asked m state ss nodes (calls.First test) (First o) (First o) refl (first_asks m state ss test ∙ ap First (sym (least o (met o refl)))) refl sound
       by_result (Err f) is met = absurd (some_none is)
-
-  -- a reopened sheet keeps the allowance used
-  pub step_reopen : (m : Numbers) (ss : List Station) (nodes : List K) → Sound G m ss nodes → Step G meets m released ss nodes Reopen Done m planning ss nodes
-  step_reopen m ss nodes sound = record { answered = refl; stands = refl; sound = sound }
 
   -- a call that the state does not admit
   pub step_barred : (m : Numbers) (state : State) (ss : List Station) (nodes : List K) (c : Call T) → answer G meets (tally m state ss) c ≡ NotAdmitted → Sound G m ss nodes → Step G meets m state ss nodes c NotAdmitted m state ss nodes

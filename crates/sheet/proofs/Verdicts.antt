@@ -1,5 +1,5 @@
 -- Verdicts on the sheet's own memory, and the calls that turn on them as steps of the tally.
-use Rattle.std.proofs.Common.{◌≡◌, ℕ, Bool, eqb, List, length, is_err, Some, None, Ok, Err, Option, Result, sym, refl, ap, ◌∙◌, subst, true≢false, arith}
+use Rattle.std.proofs.Common.{◌≡◌, ℕ, Bool, eqb, List, length, is_err, Some, None, Ok, Err, Option, Result, sym, refl, ap, ◌∙◌, true≢false, arith}
 use Rattle.std.proofs.lemmas.Bool.{eqb-true}
 use Rattle.std.specs.Option.{option_or}
 use Rattle.std.specs.Result.{result_err}
@@ -7,16 +7,12 @@ use Rattle.book.specs.declared.station.Station.{Station}
 use Rattle.book.specs.Refusals as answers
 use Rattle.book.specs.declared.limits.Limits.{Limits}
 use Rattle.book.specs.Envelopes.{polygon}
-use Rattle.book.specs.Refusals.{limits_refusal}
 use Rattle.kinds.specs.declared.kind.Kind.{Ghosts}
-use Rattle.tree.proofs.Refusing.{ok_same}
 use Rattle.judging.specs.declared.occasion.Occasion.TheVariants.{Standing}
-use Rattle.judging.specs.Judges.{Judges}
 use Rattle.judging.proofs.Keeping.{code_0_is_kept}
 use Rattle.edits.specs.declared.fault.SheetFault.{SheetFault}
-use Rattle.edits.specs.declared.fault.SheetFault.TheVariants.{Book, NotKept}
-use Rattle.edits.specs.Edits.{memory_refusal}
-use Rattle.edits.proofs.Carries.{rest_none, refused_by, some_none, test_held}
+use Rattle.edits.specs.declared.fault.SheetFault.TheVariants.{NotKept}
+use Rattle.edits.proofs.Carries.{some_none, test_held}
 use Rattle.sheet.specs.declared.answer.Answer.{Answer}
 use Rattle.sheet.specs.declared.answer.Answer.TheVariants.{Done, Refused, Verdict}
 use Rattle.sheet.specs.declared.call.Call.TheVariants.{Judge, Release}
@@ -26,23 +22,9 @@ use Rattle.sheet.specs.declared.states.Released.{Released}
 use Rattle.sheet.specs.Memory.{tally, Sound, Step, no_test, judge_answer}
 use Rattle.sheet.specs.Tally.{State, planning, released, unless, refusal_by, verdict_by, broken_by, release_refusal, answer, left}
 use Rattle.sheet.specs.Weighing.{bad_limits, brought_refusal, AllLimitsKept, Valued, Weighed, freed, release_end, release_answer, release_numbers, release_state, Freed}
-use Rattle.sheet.proofs.Openings.{none_from_mapped}
-use Rattle.sheet.proofs.Stepping.{own_memory, asked, some_same}
+use Rattle.sheet.proofs.Stepping.{own_memory, asked}
 
 module _ {K R : Type 0} (G : Ghosts K R) (m : Numbers) (ss : List Station) (nodes : List K) (l : Limits) where
-  pub valued_refused : (f : SheetFault) → brought_refusal m (length ss) (length nodes) l ≡ Some f → Valued G m ss nodes l (Err f)
-  valued_refused f is = record { refuses = sym is; value = λ v ok. absurd (true≢false (ap is_err ok)) }
-
-  pub valued_done : (v : ℕ × ℕ) → brought_refusal m (length ss) (length nodes) l ≡ None → Judges G m.basic ss nodes l.zones.now l.frames.now (polygon l.envelope.now) Standing v → Valued G m ss nodes l (Ok v)
-  valued_done v none judges = record {
-    refuses = sym none;
-    value = λ x is sound.
-        let fine : limits_refusal (length ss) l.zones.now l.frames.now ≡ None =
-        subst (λ (n : ℕ). limits_refusal n l.zones.now l.frames.now ≡ None) sound.size
-        (none_from_mapped Book (limits_refusal m.n l.zones.now l.frames.now) (rest_none (memory_refusal m.n (length ss) (length nodes)) (bad_limits m.n l) none)) in
-        sym (ok_same is) ∙ judges.value sound.lawful sound.basic fine sound.tree;
-  }
-
   -- on its own memory only the limits can be refused
   pub only_limits : (state : State) → Sound G m ss nodes → brought_refusal m (length ss) (length nodes) l ≡ refusal_by l (tally m state ss)
   only_limits state sound =
@@ -63,21 +45,6 @@ module _ {K R : Type 0} (G : Ghosts K R) (m : Numbers) (ss : List Station) (node
         let some : Some f ≡ refusal_by l (tally m state ss) = any.refuses ∙ only_limits state sound in
         asked G meets m state ss nodes (Judge l) (Refused f) (Refused f) refl
         (judge_asks state ∙ sym (ap (λ (o : Option SheetFault). unless o (Verdict (verdict_by l (tally m state ss) ss).0 (verdict_by l (tally m state ss) ss).1)) some)) refl sound
-
-  -- the verdict of a deck that may be weighed decides
-  pub weighed_refused : (f : SheetFault) → Valued G m ss nodes l (Err f) → Weighed G m ss nodes l (Err f)
-  weighed_refused f any = record {
-    refuses = λ e is. ap Err (some_same (any.refuses ∙ is));
-    own = λ sound. sym (ap (λ (o : Option SheetFault). option_or o (broken_by NotKept (verdict_by l (tally m planning ss) ss))) (sym (any.refuses ∙ only_limits planning sound)));
-  }
-
-  pub weighed_done : (v : ℕ × ℕ) (r : Result (Unit {0}) SheetFault) → Valued G m ss nodes l (Ok v) → r ≡ answers.answer (broken_by NotKept v) tt → Weighed G m ss nodes l r
-  weighed_done v r any is = record {
-    refuses = λ e some. absurd (some_none (sym (any.refuses ∙ some)));
-    own = λ sound.
-        ap result_err is ∙ refused_by (broken_by NotKept v) tt ∙ ap (broken_by NotKept) (any.value v refl sound)
-        ∙ ap (λ (o : Option SheetFault). option_or o (broken_by NotKept (verdict_by l (tally m planning ss) ss))) (any.refuses ∙ only_limits planning sound);
-  }
 
   -- what is refused only for a broken limit is accepted exactly where every limit is kept
   pub kept_exactly : bad_limits (length ss) l ≡ None → (release_refusal l (tally m planning ss) ≡ None → AllLimitsKept m ss l) × (AllLimitsKept m ss l → release_refusal l (tally m planning ss) ≡ None)

@@ -1,4 +1,4 @@
-use Rattle.std.proofs.Common.{refl, ◌∙◌}
+use Rattle.std.proofs.Common.{inl, inr, refl, ◌∙◌}
 use Rattle.edits.specs.Edits.{loading, unloading, shifting}
 use Rattle.sheet.specs.declared.call.Call.TheVariants.{Load, Unload, Shift, Reopen}
 use Rattle.sheet.specs.Tally.{planning}
@@ -6,7 +6,7 @@ use Rattle.sheet.proofs.Rehearsals.{step_stages}
 use Rattle.sheet.proofs.Stepping.{step_as, step_edit, step_range, step_barred}
 use Rattle.sheet.proofs.Verdicts.{step_judge}
 use Rattle.runs.proofs.carrying.plan.Goals as goal
-use Rattle.runs.proofs.carrying.plan.Goals.{in-Load, in-Unload, in-Shift, in-Range, in-First, in-Judge, in-Stages, in-Change, in-Reopen}
+use Rattle.runs.proofs.carrying.plan.Goals.{in-Load, in-Unload, in-Shift, in-Range, in-First, in-Judge, in-Stages, in-Change}
 
 pub returns : goal.returns
 returns g c sound =
@@ -36,6 +36,9 @@ returns g c sound =
       | in-Stages w ↦
           step_as G meets w.in-Stages.is (w.answer-is ∙ w.stages_said-answer.ensures) w.stations-is w.nodes-is
           (step_stages G m ss nodes w.in-Stages.limits w.in-Stages.bytes meets w.stages.result w.stages.new.stations w.stages.new.nodes w.stages.ensures.records (w.stages.ensures.value sound) (w.stages.ensures.tree sound) sound)
-      | in-Change w ↦ step_as G meets w.in-Change.is w.answer-is w.stations-is w.nodes-is (step_barred G meets m planning ss nodes _ refl sound)
-      | in-Reopen w ↦ step_as G meets w.in-Reopen.is w.answer-is w.stations-is w.nodes-is (step_barred G meets m planning ss nodes Reopen refl sound)
+      | in-Change w ↦
+          elim w.in-Change.is [
+            | inl (l, asked, is) ↦ step_as G meets is w.answer-is w.stations-is w.nodes-is (step_barred G meets m planning ss nodes _ refl sound)
+            | inr is ↦ step_as G meets is w.answer-is w.stations-is w.nodes-is (step_barred G meets m planning ss nodes Reopen refl sound)
+          ]
     ]

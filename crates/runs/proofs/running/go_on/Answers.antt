@@ -1,25 +1,16 @@
-use Rattle.std.proofs.Common.{◌≡◌, ◌<◌, length, arith, rules}
-use Rattle.sheet.specs.Memory.{numbers_of, state_of}
-use Rattle.runs.proofs.Histories.{run_none, run_more, run_all}
+use Rattle.std.proofs.Common.{◌≡◌, ◌<◌, map, length, sym, ap, ◌∙◌, arith}
+use lib.ListN.{length-map}
+use Rattle.std.proofs.lemmas.List.{get_or-map}
+use Rattle.runs.proofs.Histories.{run_more}
 use Rattle.runs.proofs.running.go_on.Goals as goal
-
-pub loop-i-init : goal.loop-i-init
-loop-i-init g c sound = run_none g.T.Of.Kind g.T.Test.meets (numbers_of c.args.sheet) (state_of c.args.sheet) c.args.stations.now c.args.nodes.now sound
 
 pub loop-i-preserved : goal.loop-i-preserved
 loop-i-preserved g c sound =
     let old = c.loop-i.invariant sound in
-    let taken : c.loop-i.i < length c.args.calls.now = c.loop-i-test.true in
+    let calls = c.args.calls.now in
+    let one = g.S.Steps.one in
+    let taken : c.loop-i.i < length calls = c.loop-i-test.true in
+    let long : length (map one calls) ≡ length calls = length-map calls one in
     let room : c.loop-i.i < length c.loop-i.answers = omega (arith, c.loop-i.auto.answers, c.requires) in
-    run_more g.T.Of.Kind g.T.Test.meets c.args.calls.now c.loop-i.answers c.loop-i.i c.index-calls-i.result c.index-calls-i.is taken room old (c.carry-next.ensures old.sound)
-
-pub returns : goal.returns
-returns g c sound =
-    let at : length c.args.calls.now ≡ c.loop-i.i = omega (arith, c.loop-i-test.false, c.loop-i.auto.i-end) in
-    rw at (run_all g.T.Of.Kind g.T.Test.meets c.args.calls.now c.loop-i.i c.loop-i-test.false (c.loop-i.invariant sound))
-
-pub offset_bounds-answers-i : goal.offset_bounds-answers-i
-offset_bounds-answers-i g c =
-    let taken : c.loop-i.i < length c.args.calls.now = c.loop-i-test.true in
-    let room : c.loop-i.i < length c.args.answers.now = omega (arith, c.requires) in
-    search rules
+    let here : one c.index-calls-i.result ≡ _ = ap one c.index-calls-i.is ∙ sym (get_or-map one calls c.loop-i.i c.index-calls-i.result (one c.index-calls-i.result) taken) in
+    run_more g.T.Of.Kind g.T.Test.meets {ss2 = c.step.new.stations} {n2 = c.step.new.nodes} (map one calls) c.loop-i.answers c.loop-i.i (one c.index-calls-i.result) here (omega arith) room old (c.step.ensures old.sound)

@@ -1,9 +1,0 @@
-use Rattle.std.proofs.Common.{Ok, Err}
-use Rattle.sheet.proofs.Verdicts.{freed_by}
-use Rattle.sheet.proofs.turning.freed.Goals as goal
-
-pub returns-in-Ok : goal.returns-in-Ok
-returns-in-Ok g c = freed_by g.J.Kind c.args.sheet c.args.stations.now c.args.nodes.now c.args.limits.now (Ok tt) c.in-Ok.ensures
-
-pub returns-in-Err : goal.returns-in-Err
-returns-in-Err g c = freed_by g.J.Kind c.args.sheet c.args.stations.now c.args.nodes.now c.args.limits.now (Err c.in-Err.fault) c.in-Err.ensures
