@@ -1,9 +1,8 @@
 // Answers as they are printed.
-use crate::deck_tree::FirstSaid;
-use crate::refusal::Refusal;
-use crate::summary_text::Summary;
+use crate::deck_tree::station_said;
 use book::Station;
 use kinds::House;
+use listing::{Refusal, Summary};
 use sheet::{Answer, Sheet};
 use std::fmt;
 use std::fmt::Display;
@@ -18,7 +17,7 @@ impl fmt::Display for Said {
             Answer::Done => f.write_str("done"),
             Answer::Refused(fault) => Refusal(fault).fmt(f),
             Answer::Summary(house) => Summary(house).fmt(f),
-            Answer::First(station) => FirstSaid(Ok(station)).fmt(f),
+            Answer::First(station) => station_said(station).fmt(f),
             Answer::Verdict { code, place } => write!(f, "verdict {code} place {place}"),
             Answer::NoStage => f.write_str("none"),
             Answer::Stopped { stage, code, place } => {
@@ -48,22 +47,8 @@ impl fmt::Display for Shown<'_> {
         };
         let used = self.sheet.used();
         write!(f, "{state} used {used} masses")?;
-        for station in self.stations {
-            let mass = station.mass;
+        for Station { mass, .. } in self.stations {
             write!(f, " {mass}")?;
-        }
-        Ok(())
-    }
-}
-
-// A call as it was typed, with a blank after each word.
-#[derive(Clone, Copy)]
-pub struct Typed<'a>(pub &'a str);
-
-impl fmt::Display for Typed<'_> {
-    fn fmt<W: fmt::Write>(&self, f: &mut fmt::Formatter<W>) -> fmt::Result {
-        for word in self.0.split_whitespace() {
-            write!(f, "{word} ")?;
         }
         Ok(())
     }

@@ -1,23 +1,19 @@
 // What a line of standard input asks.
-use crate::fields::Fields;
-use crate::line::told;
 use crate::stage_bytes::stage_bytes;
-use crate::wrong::Wrong;
-use book::Limits;
 use kinds::ForeBroken;
+use listing::{Fields, Line, Wrong, read_told};
 use sheet::{Call, Correction};
 use std::alloc::Global;
-use std::str::from_utf8;
-
-// The first words of the calls.
-const KNOWN: &'static str =
-    "load, unload, shift, change, range, first, judge, stages, release, reopen or show";
 
 #[derive(Drop)]
-pub enum Asked<'a> {
-    // A call on the sheet.
-    Call(Call<'a, ForeBroken>),
-    // Stages on it, by the bytes of their records.
+pub enum Asked {
+    // A call on the sheet that brings no limits.
+    Call(Call<'static, ForeBroken>),
+    // Calls by the limits of the book.
+    Judge,
+    Release,
+    Change(Correction),
+    // Stages by the same limits, by the bytes of their records.
     Stages(Vec<u8>),
     // The first station up to which the masses come to so much.
     FirstMass(i64),
@@ -25,85 +21,78 @@ pub enum Asked<'a> {
     Show,
 }
 
-impl<'a> Asked<'a> {
-    // What a line asks, by these limits, and how it was told; none where it tells nothing.
-    pub(crate) fn of<'b>(
-        heap: Global,
-        line: &'b [u8],
-        limits: &Limits<'a>,
-    ) -> Result<Option<(Asked<'a>, &'b str)>, Wrong<'b>> {
-        let Ok(line) = from_utf8(line) else {
-            return Err(Wrong::NotText);
-        };
-        let told = told(line);
-        if let Some(bytes) = stage_bytes(heap, told)? {
-            return Ok(Some((Asked::Stages(bytes), told)));
+impl Asked {
+    // What is told, or none where nothing is.
+    pub(crate) fn of(heap: Global, told: &str) -> Result<Option<Asked>, Wrong<'_>> {
+        match stage_bytes(heap, told)? {
+            Some(bytes) => Ok(Some(Asked::Stages(bytes))),
+            None => read_told(told, "call"),
         }
-        let mut fields = Fields::of(told);
-        let Some(first) = fields.first() else {
-            return Ok(None);
-        };
-        let Some(asked) = read(first, &mut fields, *limits) else {
-            return Err(Wrong::Unfit {
-                field: "call",
-                word: first,
-                wanted: KNOWN,
-            });
-        };
-        fields.end()?;
-        Ok(Some((asked, told)))
     }
 }
 
-// What a line with this first word asks, or none where the word is not known.
-fn read<'a>(first: &str, fields: &mut Fields, limits: Limits<'a>) -> Option<Asked<'a>> {
-    let call = match first {
-        "load" => Call::Load {
-            station: fields.number("station"),
-            kg: fields.number("mass"),
-        },
-        "unload" => Call::Unload {
-            station: fields.number("station"),
-            kg: fields.number("mass"),
-        },
-        "shift" => Call::Shift {
-            from: fields.number("station to shift from"),
-            to: fields.number("station to shift to"),
-            kg: fields.number("mass"),
-        },
-        "range" => Call::Range {
-            from: fields.number("first station"),
-            to: fields.number("end station"),
-        },
-        "change" => Call::Change {
-            limits,
-            asked: Correction {
-                station: fields.number("station"),
-                kg: fields.number("mass"),
-            },
-        },
-        "judge" => Call::Judge { limits },
-        "release" => Call::Release { limits },
-        "reopen" => Call::Reopen,
-        "first" => return Some(first_of(fields)),
-        "show" => return Some(Asked::Show),
-        _ => return None,
-    };
-    Some(Asked::Call(call))
+impl Line for Asked {
+    const KNOWN: &'static str =
+        "load, unload, shift, change, range, first, judge, stages, release, reopen or show";
+
+    // What a word asks for is tested, not proved.
+    ghost says = { λ _ _. Unit {0} };
+
+    fn read<'a>(first: &str, fields: &mut Fields<'a>) -> Result<Option<Asked>, Wrong<'a>> {
+        let asked = match first {
+            "change" => Asked::Change(Correction {
+                station: fields.number("station")?,
+                kg: fields.number("mass")?,
+            }),
+            "judge" => Asked::Judge,
+            "release" => Asked::Release,
+            "first" => first_of(fields)?,
+            "show" => Asked::Show,
+            _ => return Ok(call(first, fields)?.map(Asked::Call)),
+        };
+        Ok(Some(asked))
+    }
 }
 
-// Which test is asked for; what stands in for one that is not known is never carried out.
-fn first_of<'a>(fields: &mut Fields) -> Asked<'a> {
-    match fields.word("test") {
-        "mass" => Asked::FirstMass(fields.number("mass")),
-        "fore" => Asked::Call(Call::First { test: ForeBroken }),
-        word => {
-            fields.refuse(Wrong::Unfit {
-                field: "test",
-                word,
-                wanted: "mass or fore",
-            });
-            Asked::Show
-        }
+// A call that brings no limits, or none where the word is another. Not by way of a record's call: a station has any
+// width here, and a refusal names the width.
+fn call<'a>(
+    first: &str,
+    fields: &mut Fields<'a>,
+) -> Result<Option<Call<'static, ForeBroken>>, Wrong<'a>> {
+    let call = match first {
+        "load" => Call::Load {
+            station: fields.number("station")?,
+            kg: fields.number("mass")?,
+        },
+        "unload" => Call::Unload {
+            station: fields.number("station")?,
+            kg: fields.number("mass")?,
+        },
+        "shift" => Call::Shift {
+            from: fields.number("station to shift from")?,
+            to: fields.number("station to shift to")?,
+            kg: fields.number("mass")?,
+        },
+        "range" => Call::Range {
+            from: fields.number("first station")?,
+            to: fields.number("end station")?,
+        },
+        "reopen" => Call::Reopen,
+        _ => return Ok(None),
+    };
+    Ok(Some(call))
+}
+
+// Which test is asked for.
+fn first_of<'a>(fields: &mut Fields<'a>) -> Result<Asked, Wrong<'a>> {
+    match fields.word("test")? {
+        "mass" => Ok(Asked::FirstMass(fields.number("mass")?)),
+        "fore" => Ok(Asked::Call(Call::First { test: ForeBroken })),
+        word => Err(Wrong::Unfit {
+            field: "test",
+            word,
+            wanted: "mass or fore",
+        }),
     }
 }

@@ -1,15 +1,15 @@
 // The calls on standard input, each answered by a line of its own.
-use crate::answer::{Said, Shown, Typed};
+use crate::answer::{Said, Shown};
 use crate::asked::Asked;
-use crate::book_text::BookText;
 use crate::desk::Desk;
 use crate::nodes::nodes_of;
-use crate::refusal::Refusal;
 use book::{Envelope, Limits};
 use edits::SheetFault;
 use kinds::House;
-use sheet::{Answer, Planning, Sheet};
+use listing::{BadLine, BookText, Refusal, Typed, Wrong, told};
+use sheet::{Answer, Call, Planning, Sheet};
 use std::io::{BufRead, BufReader};
+use std::str::from_utf8;
 use std::{fmt, io};
 
 // Opens a sheet on the book, and carries out each call on it; an opening that is refused ends it.
@@ -41,12 +41,10 @@ fn opened(book: &BookText, nodes: &mut [House]) -> Result<(Envelope, Planning), 
     Ok((envelope, sheet))
 }
 
-fn answer_lines(rt: &HostRuntime, desk: &mut Desk<'_>, sheet: Sheet) -> io::Result<()> {
-    let mut sheet = sheet;
-    let mut number: u64 = 0;
-    for line in BufReader::new(rt.alloc(), rt.stdin())?.split(rt.alloc(), b'\n') {
-        number = number.saturating_add(1);
-        sheet = answer_line(rt, desk, sheet, number, line?.as_slice())?;
+fn answer_lines(rt: &HostRuntime, desk: &mut Desk<'_>, mut sheet: Sheet) -> io::Result<()> {
+    let lines = BufReader::new(rt.alloc(), rt.stdin())?.split(rt.alloc(), b'\n');
+    for (index, line) in lines.enumerate() {
+        sheet = answer_line(rt, desk, sheet, index.saturating_add(1), line?.as_slice())?;
     }
     Ok(())
 }
@@ -56,17 +54,26 @@ fn answer_line(
     rt: &HostRuntime,
     desk: &mut Desk<'_>,
     sheet: Sheet,
-    number: u64,
+    number: usize,
     line: &[u8],
 ) -> io::Result<Sheet> {
-    match Asked::of(rt.alloc(), line, &desk.limits) {
+    match asked(rt, line) {
         Ok(Some((asked, told))) => answer(rt, desk, sheet, told, asked),
         Ok(None) => Ok(sheet),
         Err(wrong) => {
-            println!(rt; "line {number}: {wrong}")?;
+            rt.println(BadLine { number, wrong })?;
             Ok(sheet)
         }
     }
+}
+
+// What a line asks, and how it was told; none where it tells nothing. `loadsheet` reads its lines by the same two
+// steps and makes something else of them: a function for both would hold no more than these two calls.
+fn asked<'a>(rt: &HostRuntime, line: &'a [u8]) -> Result<Option<(Asked, &'a str)>, Wrong<'a>> {
+    let line = from_utf8(line).map_err(|_| Wrong::NotText)?;
+    let told = told(line);
+    let asked = Asked::of(rt.alloc(), told)?;
+    Ok(asked.map(|asked| (asked, told)))
 }
 
 // The sheet after what is asked of it, whose answer is printed.
@@ -75,13 +82,17 @@ fn answer(
     desk: &mut Desk<'_>,
     sheet: Sheet,
     told: &str,
-    asked: Asked<'_>,
+    asked: Asked,
 ) -> io::Result<Sheet> {
+    let limits = desk.limits;
     let (sheet, answer) = match asked {
         Asked::Call(call) => desk.step(sheet, &call),
+        Asked::Judge => desk.step(sheet, &Call::Judge { limits }),
+        Asked::Release => desk.step(sheet, &Call::Release { limits }),
+        Asked::Change(asked) => desk.step(sheet, &Call::Change { limits, asked }),
         Asked::Stages(bytes) => {
-            let limits = desk.limits;
-            desk.stages(sheet, limits, bytes.as_slice())
+            let bytes = bytes.as_slice();
+            desk.step(sheet, &Call::Stages { limits, bytes })
         }
         Asked::FirstMass(mass) => (sheet, desk.first_mass(rt.alloc(), mass)?),
         Asked::Show => {

@@ -1,35 +1,30 @@
 // What the segment tree of a deck answers, as it is printed.
-use crate::summary_text::Summary;
 use kinds::House;
+use listing::{OrWord, Summary};
 use std::fmt;
 use tree::Misfit;
 
 // The answer to a range.
-#[derive(Clone, Copy)]
-pub struct RangeSaid(pub Result<House, Misfit>);
-
-impl fmt::Display for RangeSaid {
-    fn fmt<W: fmt::Write>(&self, f: &mut fmt::Formatter<W>) -> fmt::Result {
-        match self.0 {
-            Ok(house) => {
-                let summary = Summary(house);
-                write!(f, "{summary}")
-            }
-            Err(_) => f.write_str("no such range"),
-        }
-    }
+pub(crate) fn range_said(answer: Result<House, Misfit>) -> OrWord<Summary> {
+    OrWord(answer.ok().map(Summary), "no such range")
 }
 
 // The first station that was asked for.
-#[derive(Clone, Copy)]
-pub struct FirstSaid(pub Result<Option<usize>, Misfit>);
+pub(crate) fn first_said(answer: Result<Option<usize>, Misfit>) -> OrWord<OrWord<StationSaid>> {
+    OrWord(answer.ok().map(station_said), "no deck")
+}
 
-impl fmt::Display for FirstSaid {
+pub(crate) fn station_said(station: Option<usize>) -> OrWord<StationSaid> {
+    OrWord(station.map(StationSaid), "none")
+}
+
+// A station by its number.
+#[derive(Clone, Copy)]
+pub struct StationSaid(usize);
+
+impl fmt::Display for StationSaid {
     fn fmt<W: fmt::Write>(&self, f: &mut fmt::Formatter<W>) -> fmt::Result {
-        match self.0 {
-            Ok(Some(station)) => write!(f, "station {station}"),
-            Ok(None) => f.write_str("none"),
-            Err(_) => f.write_str("no deck"),
-        }
+        let station = self.0;
+        write!(f, "station {station}")
     }
 }

@@ -4,7 +4,7 @@ use book::{Basic, Limits, Station};
 use edits::SheetFault;
 use kinds::{AtLeast, ForeBroken, House, MassMoment};
 use runs::step;
-use sheet::{Answer, Call, Planning, Sheet};
+use sheet::{Answer, Call, Inspect, Planning, Sheet};
 use std::alloc::{AllocError, Global};
 
 #[derive(Drop)]
@@ -15,7 +15,7 @@ pub struct Desk<'a> {
     pub limits: Limits<'a>,
 }
 
-impl<'a> Desk<'a> {
+impl Desk<'_> {
     // The sheet after a call, and its answer.
     pub(crate) fn step(
         &mut self,
@@ -30,24 +30,12 @@ impl<'a> Desk<'a> {
         )
     }
 
-    // The same of stages, by the bytes of their records. The limits come with them, as they are lent for as long.
-    pub(crate) fn stages<'b>(
-        &mut self,
-        sheet: Sheet,
-        limits: Limits<'b>,
-        bytes: &'b [u8],
-    ) -> (Sheet, Answer<House>) {
-        self.step(sheet, &Call::Stages { limits, bytes })
-    }
-
     // The first station up to which the masses come to so much.
     pub(crate) fn first_mass(&self, heap: Global, mass: i64) -> Result<Answer<House>, AllocError> {
         let stations = self.stations.as_slice();
         let mut nodes = nodes_of::<MassMoment>(heap, stations.len())?;
-        match drafted(stations, nodes.as_mut_slice(), self.basic, mass) {
-            Ok(station) => Ok(Answer::First(station)),
-            Err(fault) => Ok(Answer::Refused(fault)),
-        }
+        let drafted = drafted(stations, nodes.as_mut_slice(), self.basic, mass);
+        Ok(drafted.map_or_else(Answer::Refused, Answer::First))
     }
 }
 

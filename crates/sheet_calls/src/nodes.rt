@@ -8,9 +8,6 @@ pub(crate) fn nodes_of<K: Kind + Drop>(
     heap: Global,
     stations: usize,
 ) -> Result<Vec<K>, AllocError> {
-    let mut nodes = Vec::new(heap);
-    for _ in 0..nodes_for(stations).unwrap_or(0) {
-        nodes.push(K::empty())?;
-    }
-    Ok(nodes)
+    let count = nodes_for(stations).unwrap_or(0);
+    Ok(vec![in heap; K::empty(); count]?)
 }

@@ -1,6 +1,6 @@
 // The bytes that a line hands to stages: records that the writer made, or hex digits.
-use crate::line::read_told;
-use crate::wrong::Wrong;
+use hex::FromHexError;
+use listing::{Wrong, read_told};
 use records::{Call, Writer};
 use std::alloc::Global;
 
@@ -23,8 +23,7 @@ fn after<'a>(word: &str, told: &'a str) -> Option<&'a str> {
     if told.split_whitespace().next() != Some(word) {
         return None;
     }
-    let (_, rest) = told.split_once(word)?;
-    Some(rest)
+    told.split_once(word).map(|(_, rest)| rest)
 }
 
 // The records of calls with `;` between them, one after the other.
@@ -33,43 +32,29 @@ fn records_of(heap: Global, calls: &str) -> Result<Vec<u8>, Wrong<'_>> {
     let mut memory = vec![in heap; 0; count.saturating_mul(LONGEST)]?;
     let mut writer = Writer::new(memory.as_mut_slice());
     for told in calls.split(';') {
-        let Some(call) = read_told::<Call>(told)? else {
+        let Some(call) = read_told::<Call>(told, "stage")? else {
             return Err(Wrong::Missing { field: "stage" });
         };
-        if writer.write(&call).is_err() {
-            return Err(Wrong::NoMemory);
-        }
+        writer.write(&call).map_err(|_| Wrong::NoMemory)?;
     }
     let written = writer.written();
     memory.truncate(written);
     Ok(memory)
 }
 
+// The bytes of words of hex digits.
 fn hex_bytes(heap: Global, digits: &str) -> Result<Vec<u8>, Wrong<'_>> {
     let mut bytes = Vec::new(heap);
     for word in digits.split_whitespace() {
-        for pair in word.as_bytes().chunks(2) {
-            let Some(byte) = byte_of(pair) else {
-                return Err(Wrong::Unfit {
-                    field: "text",
-                    word,
-                    wanted: "pairs of hex digits",
-                });
-            };
-            if bytes.push(byte).is_err() {
-                return Err(Wrong::NoMemory);
-            }
-        }
+        let more = hex::decode(heap, word).map_err(|error| match error {
+            FromHexError::OutOfMemory => Wrong::NoMemory,
+            _ => Wrong::Unfit {
+                field: "text",
+                word,
+                wanted: "pairs of hex digits",
+            },
+        })?;
+        bytes.extend_from_slice(more.as_slice())?;
     }
     Ok(bytes)
-}
-
-// The byte of two hex digits.
-fn byte_of(pair: &[u8]) -> Option<u8> {
-    let [high, low] = pair else {
-        return None;
-    };
-    let high = char::from(*high).to_digit(16)?;
-    let low = char::from(*low).to_digit(16)?;
-    Some((high * 16 + low) as u8)
 }

@@ -1,0 +1,24 @@
+// Why a program ends early.
+use std::alloc::AllocError;
+use std::io;
+use thiserror::Error;
+
+#[derive(Debug, Drop, Error)]
+pub enum Failure {
+    #[error("usage: {program} BOOK")]
+    Usage { program: &'static str },
+    #[error("cannot read the book {path}: {error}")]
+    Book { path: String, error: io::Error },
+    // What is wrong with a line of the book.
+    #[error("{0}")]
+    Line(String),
+    // The arguments or standard input cannot be read, or standard output cannot be written.
+    #[error("cannot go on: {0}")]
+    Stream(#[from] io::Error),
+}
+
+impl From<AllocError> for Failure {
+    fn from(error: AllocError) -> Failure {
+        Failure::Stream(io::Error::from(error))
+    }
+}

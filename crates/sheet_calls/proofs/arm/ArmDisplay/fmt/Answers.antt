@@ -1,5 +1,0 @@
-use Rattle.std.proofs.Common.{rules}
-use Rattle.sheet_calls.proofs.arm.ArmDisplay.fmt.Goals as goal
-
-pub returns-in-Ahead-clause-writes : goal.returns-in-Ahead-clause-writes
-returns-in-Ahead-clause-writes g c = rw c.in-Ahead.is (search rules)
