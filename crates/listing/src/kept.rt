@@ -1,9 +1,11 @@
 // What the limits of a book say of its totals.
-ghost use Rattle.std.specs.Prelude.{◌≡◌};
+ghost use Rattle.std.specs.Prelude.{◌≡◌, vec_items};
+ghost use Rattle.book.specs.Envelopes.{polygon_in};
 ghost use Rattle.book.specs.Refusals.{answer};
 ghost use Rattle.listing.specs.Judged.{judging_refusal, kept_at};
 
 use crate::book_text::BookText;
+use crate::lists::Lists;
 use book::{BookFault, Envelope, Limits, Totals};
 use std::fmt;
 
@@ -19,19 +21,26 @@ impl Kept {
     pub fn by(book: &BookText, totals: Totals) -> Result<Kept, BookFault>
         ensures { result ≡ answer (judging_refusal book.now.lists) (kept_at book.now totals) }
     {
-        let lists = &book.lists;
-        let envelope = Envelope::new(lists.vertices.as_slice())?;
-        let limits = Limits {
-            zones: lists.zones.as_slice(),
-            frames: lists.frames.as_slice(),
-            envelope: &envelope,
-        };
-        limits.check(lists.stations.len())?;
+        let envelope = sound_envelope(&book.lists)?;
         Ok(Kept {
             trim: envelope.inside(totals.mass, totals.moment),
             tip: book.basic.keeps_tip(totals),
         })
     }
+}
+
+// The envelope of a book whose zones and frames keep their rules too.
+fn sound_envelope(lists: &Lists) -> Result<Envelope, BookFault>
+    ensures { polygon_in result ≡ answer (judging_refusal lists.now) (vec_items lists.now.vertices) }
+{
+    let envelope = Envelope::new(lists.vertices.as_slice())?;
+    let limits = Limits {
+        zones: lists.zones.as_slice(),
+        frames: lists.frames.as_slice(),
+        envelope: &envelope,
+    };
+    limits.check(lists.stations.len())?;
+    Ok(envelope)
 }
 
 impl fmt::Display for Kept {
