@@ -1,5 +1,5 @@
 -- How large a product can be.
-use Rattle.std.proofs.Common.{ℕ, ◌*◌, ◌^◌, ◌≤◌, ℤ, pos, negsuc, ◌-ℤ◌, ◌*ℤ◌, nat_abs, sym, subst, mul-le-mul, arith, w32, w64, SFits}
+use Rattle.std.proofs.Common.{ℕ, ◌-◌, ◌*◌, ◌^◌, ◌<◌, ◌≤◌, ℤ, pos, negsuc, ◌-ℤ◌, ◌*ℤ◌, nat_abs, sym, subst, mul-le-mul, arith, w32, w64, SFits}
 use mir.Syntax.{w128}
 use Rattle.std.proofs.lemmas.Int.{unsigned_abs-mul, fits_signed_mul, ints}
 use Rattle.book.specs.Spans.{Span}
@@ -32,6 +32,10 @@ span_mass m b h = (omega (arith, ints), omega (arith, ints))
 
 span_arm : (a : ℤ) → SFits w32 a → Span a (2 ^ 31)
 span_arm a f = (omega (arith, ints), omega (arith, ints))
+
+-- any arm times any station's mass
+pub moment_fits : (m : ℕ) (a : ℤ) → m < 2 ^ 32 → SFits w32 a → SFits w64 (pos m *ℤ a)
+moment_fits m a h f = fits_signed_mul w64 (pos m) a (2 ^ 32 - 1) (2 ^ 31) (omega arith) (size a (2 ^ 31) (span_arm a f)) (omega arith)
 
 -- any arm times any total mass
 span_total : (m : ℤ) → SFits w64 m → Span m (2 ^ 63)

@@ -15,7 +15,7 @@ use Rattle.records.specs.Forms.{form_of_kind, kind_of, counted_of}
 use Rattle.records.specs.Records.{form_of, Fits, two, four, body_of, together, encode}
 use Rattle.records.specs.Reading.{word, dword, call_in, of_form, record_in, Stands, Exactly}
 use Rattle.records.specs.Writing.{Finished}
-use Rattle.records.proofs.Bytes.{Bytes, bytes_drop, two_word, four_dword}
+use Rattle.records.proofs.Bytes.{Bytes, bytes_drop, word_taken, dword_taken}
 
 -- a record written and then read
 
@@ -70,8 +70,8 @@ form_back forms.Change bs = refl
 -- the body of the call that was read is the bytes that it was read from
 six : (bs : List ℕ) (at : ℕ) → Bytes bs → at + 6 ≤ length bs → two (word bs at) ++ (four (dword bs (at + 2)) ++ []) ≡ take 6 (drop at bs)
 six bs at h l =
-    ap (λ (r : List ℕ). r ++ (four (dword bs (at + 2)) ++ [])) (two_word bs at h (omega arith))
-    ∙ ap (λ (r : List ℕ). take 2 (drop at bs) ++ r) (append-nil (four (dword bs (at + 2))) ∙ four_dword bs (at + 2) h (omega arith))
+    ap (λ (r : List ℕ). r ++ (four (dword bs (at + 2)) ++ [])) (word_taken bs at h (omega arith))
+    ∙ ap (λ (r : List ℕ). take 2 (drop at bs) ++ r) (append-nil (four (dword bs (at + 2))) ∙ dword_taken bs (at + 2) h (omega arith))
     ∙ ap (λ (r : List ℕ). take 2 (drop at bs) ++ take 4 r) (sym (drop-drop 2 at bs))
     ∙ sym (take-add 2 4 (drop at bs))
 
@@ -79,7 +79,7 @@ body_back : (f : Form) (bs : List ℕ) → Bytes bs → counted_of f - 2 ≤ len
 body_back forms.Load bs h l = six bs 0 h l
 body_back forms.Unload bs h l = six bs 0 h l
 body_back forms.Shift bs h l =
-    ap (λ (r : List ℕ). r ++ (two (word bs 2) ++ (four (dword bs 4) ++ []))) (two_word bs 0 h (omega arith))
+    ap (λ (r : List ℕ). r ++ (two (word bs 2) ++ (four (dword bs 4) ++ []))) (word_taken bs 0 h (omega arith))
     ∙ ap (λ (r : List ℕ). take 2 bs ++ r) (six bs 2 h l)
     ∙ sym (take-add 2 6 bs)
 body_back forms.Change bs h l = ap (λ (n : ℕ). two (word bs 0) ++ (four n ++ [])) (of_z-to_z w32 (dword bs 2) (dword_fits bs 2 h)) ∙ six bs 0 h l
@@ -107,8 +107,8 @@ accepted n (Some f) body at c next e = record { form = f; kind = refl; count = g
 -- the bytes of a header and of the body after it
 header_back : (bs : List ℕ) (f : Form) → Bytes bs → 4 ≤ length bs → word bs 0 ≡ counted_of f → word bs 2 ≡ kind_of f → two (counted_of f) ++ two (kind_of f) ≡ take 4 bs
 header_back bs f h l n k =
-    ap (λ (r : List ℕ). r ++ two (kind_of f)) (ap two (sym n) ∙ two_word bs 0 h (omega arith))
-    ∙ ap (λ (r : List ℕ). take 2 bs ++ r) (ap two (sym k) ∙ two_word bs 2 h l)
+    ap (λ (r : List ℕ). r ++ two (kind_of f)) (ap two (sym n) ∙ word_taken bs 0 h (omega arith))
+    ∙ ap (λ (r : List ℕ). take 2 bs ++ r) (ap two (sym k) ∙ word_taken bs 2 h l)
     ∙ sym (take-add 2 2 bs)
 
 record Front (bs : List ℕ) (at : ℕ) (c : Call) (next : ℕ) : Type 0 where
