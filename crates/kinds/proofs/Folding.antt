@@ -1,5 +1,7 @@
--- Readings carried from one kind to another, and from a pair to its sides.
-use Rattle.std.proofs.Common.{◌≡◌, ℕ, suc, List, [], ◌∷◌, refl, ◌∙◌}
+-- Readings carried from one kind to another, and from a pair to its sides; stations joined one more at the front.
+use Rattle.std.proofs.Common.{◌≡◌, ℕ, suc, ◌+◌, ◌-◌, ◌<◌, ◌≤◌, min, Bool, true, false, ltb, List, [], ◌∷◌, length, get_or, drop, sym, refl, ap, ◌∙◌, arith}
+use Rattle.std.proofs.lemmas.Bool.{ltb-true, ltb-false}
+use Rattle.std.proofs.lemmas.List.{drop_all, drop_more}
 use Rattle.book.specs.declared.station.Station.{Station}
 use Rattle.kinds.specs.Folds.{read_at}
 
@@ -10,6 +12,33 @@ read_carried f none single joined none' single' joined' a b c n (x ∷ xs) =
     let p = b n x in
     let q = read_carried f none single joined none' single' joined' a b c (suc n) xs in
     c (single n x) (read_at none single joined (suc n) xs) ∙ cc
+
+-- the deck from the lesser of a place and the deck's end on is the deck from that place on
+module _ {R : Type 0} (none : R) (single : ℕ → Station → R) (joined : R → R → R) (ss : List Station) where
+  pub from_end : (i from : ℕ) → i ≡ min from (length ss) → (drop i ss ≡ drop from ss) × (read_at none single joined i (drop i ss) ≡ read_at none single joined from (drop from ss))
+  from_end i from e = by (ltb from (length ss)) refl
+    where
+      by : (b : Bool) → ltb from (length ss) ≡ b → (drop i ss ≡ drop from ss) × (read_at none single joined i (drop i ss) ≡ read_at none single joined from (drop from ss))
+      by true h =
+          let l : from < length ss = ltb-true _ _ h in
+          let p : i ≡ from = omega arith in
+          (ap (λ (k : ℕ). drop k ss) p, ap (λ (k : ℕ). read_at none single joined k (drop k ss)) p)
+      by false h =
+          let l : length ss ≤ from = ltb-false _ _ h in
+          let p = drop_all i ss (omega arith) in
+          let q = drop_all from ss l in
+          (p ∙ sym q, ap (read_at none single joined i) p ∙ sym (ap (read_at none single joined from) q))
+
+  -- one station more at the front
+  pub from_front : (i : ℕ) (d : Station) → 0 < i → i ≤ length ss → (read_at none single joined (i - 1) (drop (i - 1) ss) ≡ joined (single (i - 1) (get_or ss (i - 1) d)) (read_at none single joined i (drop i ss))) × (length (drop (i - 1) ss) ≡ 1 + length (drop i ss))
+  from_front i d l h =
+      let lt : i - 1 < length ss = omega arith in
+      let e : i - 1 + 1 ≡ i = omega arith in
+      let f : suc (i - 1) ≡ i = omega arith in
+      let p : drop (i - 1) ss ≡ get_or ss (i - 1) d ∷ drop i ss = drop_more ss (i - 1) d lt ∙ ap (λ (k : ℕ). get_or ss (i - 1) d ∷ drop k ss) e in (
+        ap (read_at none single joined (i - 1)) p ∙ ap (λ (k : ℕ). joined (single (i - 1) (get_or ss (i - 1) d)) (read_at none single joined k (drop i ss))) f,
+        ap length p ∙ omega arith,
+      )
 
 -- of pairs joined side by side, each side is carried by itself
 module _ {R S : Type 0} where

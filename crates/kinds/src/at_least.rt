@@ -1,4 +1,4 @@
-ghost use Rattle.std.specs.Prelude.{int_le};
+ghost use Rattle.std.specs.Prelude.{◌≡◌, int_le};
 
 use crate::mass_moment::MassMoment;
 use crate::test_of::Test;
@@ -9,6 +9,16 @@ pub struct AtLeast {
     pub mass: i64,
 }
 
+impl AtLeast {
+    // Whether a summary's mass is at least this. By itself, since it is said of any summary, where `met` promises
+    // something only of one that stands for stations.
+    fn is_reached(&self, value: MassMoment) -> bool
+        ensures { result ≡ int_le self.now.mass value.mass }
+    {
+        self.mass <= value.mass
+    }
+}
+
 impl Test for AtLeast {
     type Read = MassMoment;
 
@@ -17,6 +27,6 @@ impl Test for AtLeast {
     ghost meets = { λ t x. int_le t.mass x.mass };
 
     fn met(&self, value: MassMoment) -> bool {
-        self.mass <= value.mass
+        self.is_reached(value)
     }
 }

@@ -1,3 +1,4 @@
+ghost use Rattle.std.specs.Prelude.{◌≡◌};
 ghost use Rattle.kinds.specs.Floors.{no_floor, one_floor, both_floors};
 ghost use Rattle.std.proofs.Common.{rules};
 
@@ -40,8 +41,10 @@ impl Kind for FloorRecord {
         FloorRecord::default()
     }
 
-    // A station is over where its mass is above its floor limit.
-    fn station(number: usize, given: &Station) -> FloorRecord {
+    // A station is over where its mass is above its floor limit, whatever its record holds.
+    fn station(number: usize, given: &Station) -> FloorRecord
+        ensures { result ≡ one_floor number given.now }
+    {
         FloorRecord {
             first: (given.mass > given.floor).then(|| Over {
                 station: number,

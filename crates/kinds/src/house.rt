@@ -1,4 +1,5 @@
 ghost use Rattle.std.specs.Prelude.{◌≡◌};
+ghost use Rattle.book.specs.Fields.{Lawful};
 ghost use Rattle.kinds.specs.Houses.{no_house, one_house, both_houses, held_houses, Sound};
 ghost use Rattle.kinds.specs.Laws.{house_right, house_assoc};
 ghost use Rattle.std.proofs.Common.{rules};
@@ -52,7 +53,11 @@ impl Kind for House {
         House::default()
     }
 
-    fn station(number: usize, given: &Station) -> House {
+    // One station's summary, whatever its record holds.
+    fn station(number: usize, given: &Station) -> House
+        ensures says { result ≡ one_house number given.now }
+        ensures stands { Lawful given.now → Sound result 1 }
+    {
         House {
             moments: MassMoment::station(number, given),
             load: RunningLoad::station(number, given),

@@ -1,4 +1,5 @@
 ghost use Rattle.std.specs.Prelude.{◌≡◌};
+ghost use Rattle.book.specs.Fields.{Lawful};
 ghost use Rattle.kinds.specs.Moments.{no_moment, one_moment, both_moments, held_moments, Within};
 ghost use Rattle.std.proofs.Math.IntN.{+ℤ_assoc};
 ghost use Rattle.std.proofs.Common.{rules};
@@ -48,8 +49,12 @@ impl Kind for MassMoment {
         MassMoment::default()
     }
 
+    // One station's mass and moment, whatever its record holds.
     #[tactic(auto, using(crate::proofs::Parts::moments_single))]
-    fn station(_number: usize, given: &Station) -> MassMoment {
+    fn station(_number: usize, given: &Station) -> MassMoment
+        ensures says { result ≡ one_moment given.now }
+        ensures stands { Lawful given.now → Within result 1 }
+    {
         MassMoment {
             mass: i64::from(given.mass),
             moment: given.moment(),

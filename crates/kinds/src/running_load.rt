@@ -1,4 +1,5 @@
 ghost use Rattle.std.specs.Prelude.{◌≡◌};
+ghost use Rattle.book.specs.Fields.{Lawful};
 ghost use Rattle.kinds.specs.Loads.{no_load, one_load, both_loads, held_loads, Bounded};
 ghost use Rattle.kinds.specs.Laws.{loads_assoc};
 ghost use Rattle.std.proofs.Common.{rules};
@@ -50,8 +51,12 @@ impl Kind for RunningLoad {
         RunningLoad::default()
     }
 
+    // One station's load, whatever its record holds.
     #[tactic(auto, using(crate::proofs::Parts::loads_single))]
-    fn station(_number: usize, given: &Station) -> RunningLoad {
+    fn station(_number: usize, given: &Station) -> RunningLoad
+        ensures says { result ≡ one_load given.now }
+        ensures stands { Lawful given.now → Bounded result 1 }
+    {
         RunningLoad {
             total: i64::from(given.mass),
             fore: margin(given.fore, given.mass),
