@@ -47,7 +47,7 @@ err_part : (o : Option Breach) → result_err (answer o (tt {0})) ≡ o
 err_part None = refl
 err_part (Some x) = refl
 
-judges : (o : Occasion) (b : Basic) (ss : List Station) (zs : List Zone) (fs : List Frame) (vs : List Vertex) {checked : Result (Unit {0}) Breach} → checked ≡ answer (first_breach o b ss zs fs vs) tt → unwrap_or (option_map verdict (result_err checked)) (0, 0) ≡ judgement o b ss zs fs vs
+pub judges : (o : Occasion) (b : Basic) (ss : List Station) (zs : List Zone) (fs : List Frame) (vs : List Vertex) {checked : Result (Unit {0}) Breach} → checked ≡ answer (first_breach o b ss zs fs vs) tt → unwrap_or (option_map verdict (result_err checked)) (0, 0) ≡ judgement o b ss zs fs vs
 unfolding judgement
 judges o b ss zs fs vs e =
     ap (λ (r : Result (Unit {0}) Breach). unwrap_or (option_map verdict (result_err r)) (0, 0)) e

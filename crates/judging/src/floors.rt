@@ -1,8 +1,8 @@
 ghost use Rattle.std.specs.Prelude.{◌≡◌, List};
 ghost use Rattle.book.specs.declared.station.Station.{Station};
 ghost use Rattle.book.specs.Refusals.{answer, first_failing};
+ghost use Rattle.kinds.specs.Houses.{house_at};
 ghost use Rattle.judging.specs.Breaches.{floor_breach};
-ghost use Rattle.judging.specs.Decks.{Whole};
 ghost use Rattle.judging.specs.Spots.{spots, floor_kept};
 ghost use Rattle.judging.specs.Steps.{place_of};
 
@@ -18,14 +18,14 @@ fn station_of(floors: &FloorRecord) -> Option<usize>
 
 // The first station over its floor limit, by the deck's summary.
 fn first_over(house: &House) -> Option<usize>
-    ensures { (ss : List Station) → Whole ss house.now → result ≡ first_failing floor_kept 0 (spots ss) }
+    ensures { (ss : List Station) → house.now ≡ house_at 0 ss → result ≡ first_failing floor_kept 0 (spots ss) }
 {
     station_of(&house.floors)
 }
 
 // Verdict 1: every floor bears its load, or the first station over its floor limit.
 pub(crate) fn check_floors(house: &House) -> Result<(), Breach>
-    ensures { (ss : List Station) → Whole ss house.now → result ≡ answer (floor_breach ss) tt }
+    ensures { (ss : List Station) → house.now ≡ house_at 0 ss → result ≡ answer (floor_breach ss) tt }
 {
     first_over(house).map_or(Ok(()), |station| Err(Breach::OverFloor { station }))
 }

@@ -11,7 +11,7 @@ use Rattle.book.specs.Refusals.{limits_refusal}
 use Rattle.stages.specs.declared.ending.Ending.{Ending}
 use Rattle.stages.specs.declared.ending.Ending.TheVariants.{AllKept}
 use Rattle.stages.specs.Staging.{ending_from, ending}
-use Rattle.stages.specs.Steps.{OnlyMasses, Ready, Turned, Ran}
+use Rattle.stages.specs.Steps.{OnlyMasses, Ready, Stepped, Turned, Ran}
 use Rattle.stages.proofs.Following.{all_kept}
 use Rattle.stages.proofs.Masses.{only_self, only_then}
 
@@ -38,27 +38,36 @@ module _ {K R : Type 0} (G : Ghosts K R) (b : Basic) (zs : List Zone) (fs : List
     pub far_none : SoFar 0 0 ss nodes
     far_none = record { few = omega arith; only = only_self G ss nodes; leads = λ ready more count. at_first more (omega arith) }
 
-    module _ (stage at : ℕ) (ss1 : List Station) (nodes1 : List K) (far : SoFar stage at ss1 nodes1) (r : Result ℕ Ending) (ss2 : List Station) (nodes2 : List K) (turn : Turned G b zs fs vs bytes stage at ss1 nodes1 r ss2 nodes2) where
+    module _ (stage at : ℕ) (ss1 : List Station) (nodes1 : List K) (far : SoFar stage at ss1 nodes1) where
       -- no record is left
-      stops_past : (e : Ending) → r ≡ Err e → length bytes ≤ at → Ran G b zs fs vs bytes ss nodes e ss2 nodes2
-      stops_past e is past =
-          let (kept, same, still) = turn.past past in
-          let few = far.few in
-          let all : e ≡ AllKept = cc in
-          rw (all, same, still) record {
-            only = far.only;
-            value = λ ready. sym (all_kept b zs fs vs bytes stage at (256 - stage) ss1 past) ∙ far.leads ready (256 - stage) (omega arith);
-          }
+      pub far_done : length bytes ≤ at → Ran G b zs fs vs bytes ss nodes AllKept ss1 nodes1
+      far_done past = record {
+        only = far.only;
+        value = λ ready.
+            let few = far.few in
+            sym (all_kept b zs fs vs bytes stage at (256 - stage) ss1 past) ∙ far.leads ready (256 - stage) (omega arith);
+      }
 
-      stops_there : (e : Ending) → r ≡ Err e → at < length bytes → Ran G b zs fs vs bytes ss nodes e ss2 nodes2
-      stops_there e is lt =
-          let step = turn.there lt in
+    module _ (stage at : ℕ) (ss1 : List Station) (nodes1 : List K) (far : SoFar stage at ss1 nodes1) (r : Result ℕ Ending) (ss2 : List Station) (nodes2 : List K) where
+      -- a record is left, and its stage is the last
+      pub far_ends : Stepped G b zs fs vs bytes stage at ss1 nodes1 r ss2 nodes2 → at < length bytes → (e : Ending) → r ≡ Err e → Ran G b zs fs vs bytes ss nodes e ss2 nodes2
+      far_ends step lt e is =
           let few = far.few in
           let count : stage + (256 - stage) ≡ 256 = omega arith in
           record {
             only = only_then G far.only step.only;
             value = λ ready. sym (step.ends e (256 - stage) is (ready_then far.only ready) lt count) ∙ far.leads ready (256 - stage) count;
           }
+
+    module _ (stage at : ℕ) (ss1 : List Station) (nodes1 : List K) (far : SoFar stage at ss1 nodes1) (r : Result ℕ Ending) (ss2 : List Station) (nodes2 : List K) (turn : Turned G b zs fs vs bytes stage at ss1 nodes1 r ss2 nodes2) where
+      stops_past : (e : Ending) → r ≡ Err e → length bytes ≤ at → Ran G b zs fs vs bytes ss nodes e ss2 nodes2
+      stops_past e is past =
+          let (kept, same, still) = turn.past past in
+          let all : e ≡ AllKept = cc in
+          rw (all, same, still) (far_done stage at ss1 nodes1 far past)
+
+      stops_there : (e : Ending) → r ≡ Err e → at < length bytes → Ran G b zs fs vs bytes ss nodes e ss2 nodes2
+      stops_there e is lt = far_ends stage at ss1 nodes1 far r ss2 nodes2 (turn.there lt) lt e is
 
       pub far_stops : (e : Ending) → r ≡ Err e → Ran G b zs fs vs bytes ss nodes e ss2 nodes2
       far_stops e is = ⊎_elim (stops_there e is) (stops_past e is) (cases_lt at (length bytes))

@@ -5,4 +5,4 @@ use Rattle.judging.proofs.Summing.{first_floor}
 use Rattle.judging.proofs.floors.first_over.Goals as goal
 
 pub returns : goal.returns
-returns c ss whole = c.station_of.ensures ∙ ap (λ (h : House). place_of h.floors.first) whole.sums ∙ first_floor 0 [] ss
+returns c ss is = c.station_of.ensures ∙ ap (λ (h : House). place_of h.floors.first) is ∙ first_floor 0 [] ss

@@ -20,7 +20,7 @@ ends n zs i d e below =
     leb-true _ _ (and_parts (ltb z.from z.to) (leb z.to n) (and_parts (ltb z.from z.to && leb z.to n) (leb z.limit 10000000) each).0).1
 
 pub returns : goal.returns
-returns g c sound checked =
+returns g c tree checked =
     let ss = c.args.deck.now.stations.now in
     let zs = c.args.zones.now in
     c.first_failing.ensures (zone_kept ss) (λ x i b below is called.
