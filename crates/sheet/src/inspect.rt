@@ -23,8 +23,8 @@ pub trait Inspect {
     fn numbers(&self) -> Numbers
         ensures { result ≡ carried self.now };
 
-    // The stations of a range joined nose to tail. Its work and that of the next two stands in functions of their own,
-    // where its proof is: here the promise stands once for both states, so that the wrong work is refused.
+    // The stations of a range joined nose to tail. Its work and that of the next two stands in functions of their own: here
+    // the promise stands once for both states, so that the wrong work is refused.
     final fn range<K: Kind>(
         &self,
         stations: &[Station],
