@@ -5,7 +5,7 @@ use crate::lists::Lists;
 use crate::wrong::{BadLine, Wrong};
 use book::Basic;
 use std::alloc::Global;
-use std::fmt;
+use std::io;
 use std::str::from_utf8;
 
 #[derive(Drop)]
@@ -31,6 +31,15 @@ impl BookText {
         })?;
         Ok(BookText { basic, lists })
     }
+
+    // Prints the entries in the order of the file. Each line is written by itself: whoever reads the output meanwhile, or
+    // writes to the same file, sees whole lines.
+    pub fn print(&self, rt: &HostRuntime) -> io::Result<()> {
+        for entry in self.lists.entries.iter() {
+            rt.println(entry)?;
+        }
+        Ok(())
+    }
 }
 
 // The number, from 1, of the line in which the byte at `at` stands.
@@ -38,16 +47,6 @@ fn line_at(bytes: &[u8], at: usize) -> usize {
     let before = bytes.iter().take(at);
     let ends = before.filter(|byte| **byte == b'\n').count();
     ends.saturating_add(1)
-}
-
-// The entries in the order of the file, each in a line of its own.
-impl fmt::Display for BookText {
-    fn fmt<W: fmt::Write>(&self, f: &mut fmt::Formatter<W>) -> fmt::Result {
-        for entry in self.lists.entries.iter() {
-            writeln!(f, "{entry}")?;
-        }
-        Ok(())
-    }
 }
 
 #[cfg(test)]

@@ -1,4 +1,6 @@
 // Why a program ends early.
+ghost use Rattle.listing.specs.declared.failure.Failure.TheVariants.{Usage as OfUsage, Book as OfBook, Line as OfLine, Stream as OfStream};
+
 use std::alloc::AllocError;
 use std::io;
 use thiserror::Error;
@@ -17,7 +19,10 @@ pub enum Failure {
     Stream(#[from] io::Error),
 }
 
+// Want of memory is a failure of a stream.
 impl From<AllocError> for Failure {
+    ghost from_gives = { λ _ r. elim r [ OfUsage _ ↦ ⊥ | OfBook _ _ ↦ ⊥ | OfLine _ ↦ ⊥ | OfStream _ ↦ Unit {0} ] };
+
     fn from(error: AllocError) -> Failure {
         Failure::Stream(io::Error::from(error))
     }

@@ -1,5 +1,5 @@
 // The fields of one line, read one after the other up to the first that is wrong.
-ghost use Rattle.std.specs.Prelude.{◌≡◌, ℕ, List, MatchOption, IfOk, Ok};
+ghost use Rattle.std.specs.Prelude.{◌≡◌, ℕ, List, MatchOption, IfOk, Ok, None, codes};
 ghost use Rattle.std.specs.Char.{is_not_whitespace};
 ghost use Rattle.std.specs.Str.{NoCharPasses};
 ghost use Rattle.std.specs.Str.Iter.{split_whitespace_rest};
@@ -48,7 +48,9 @@ impl<'a> Fields<'a> {
     }
 
     // A limit, or `-` for none.
-    pub(crate) fn limit(&mut self, field: &'static str) -> Result<Option<u32>, Wrong<'a>> {
+    pub(crate) fn limit(&mut self, field: &'static str) -> Result<Option<u32>, Wrong<'a>>
+        ensures { IfOk result (λ limit. (word : List ℕ) × WordOf self.old word × (limit ≡ None → word ≡ codes "-")) }
+    {
         match self.word(field)? {
             "-" => Ok(None),
             word => Ok(Some(number_of(field, word)?)),
@@ -56,7 +58,9 @@ impl<'a> Fields<'a> {
     }
 
     // No word may be left.
-    pub(crate) fn end(mut self) -> Result<(), Wrong<'a>> {
+    pub(crate) fn end(mut self) -> Result<(), Wrong<'a>>
+        ensures { IfOk result (λ _. NoCharPasses is_not_whitespace (split_whitespace_rest self.entry.rest)) }
+    {
         self.rest
             .next()
             .map_or(Ok(()), |first| Err(Wrong::TooMany { first }))

@@ -23,7 +23,7 @@ mod wrong;
 
 pub use book_file::read_book;
 pub use book_text::BookText;
-pub use decks::Decks;
+pub use decks::print_decks;
 pub use entry::Entry;
 pub use failure::Failure;
 pub use fields::Fields;

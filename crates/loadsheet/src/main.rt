@@ -7,7 +7,7 @@ mod call_text;
 
 use answer::Answer;
 use book::Totals;
-use listing::{BadLine, BookText, Decks, Failure, Kept, Refusal, read_book};
+use listing::{BadLine, BookText, Failure, Kept, Refusal, print_decks, read_book};
 use std::io;
 use std::io::{BufRead, BufReader};
 use std::process::ExitCode;
@@ -19,7 +19,7 @@ fn print_judgement(rt: &HostRuntime, book: &BookText) -> io::Result<()> {
         Ok(totals) => totals,
         Err(fault) => return rt.println(Refusal::from(fault)),
     };
-    rt.print(Decks(stations))?;
+    print_decks(rt, stations)?;
     let Totals { mass, moment } = totals;
     println!(rt; "total: mass {mass} kg, moment {moment} kg cm")?;
     match Kept::by(book, totals) {
@@ -47,7 +47,7 @@ fn answer_line(rt: &HostRuntime, number: usize, line: &[u8]) -> io::Result<()> {
 
 fn run(rt: &HostRuntime) -> Result<(), Failure> {
     let book = read_book(rt, "loadsheet")?;
-    rt.print(&book)?;
+    book.print(rt)?;
     print_judgement(rt, &book)?;
     answer_calls(rt)?;
     Ok(())

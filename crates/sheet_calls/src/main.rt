@@ -14,7 +14,7 @@ use book::Totals;
 use calls::answer_calls;
 use deck_tree::{first_said, range_said};
 use kinds::{ForeBroken, House};
-use listing::{BookText, Decks, Failure, Kept, Lists, Refusal, read_book};
+use listing::{BookText, Failure, Kept, Lists, Refusal, print_decks, read_book};
 use nodes::nodes_of;
 use std::io;
 use std::process::ExitCode;
@@ -46,7 +46,7 @@ fn print_judgement(rt: &HostRuntime, book: &BookText) -> io::Result<()> {
         Ok(totals) => totals,
         Err(fault) => return rt.println(Refusal::from(fault)),
     };
-    rt.print(Decks(stations))?;
+    print_decks(rt, stations)?;
     print_tree(rt, &book.lists)?;
     let Totals { mass, moment } = totals;
     println!(rt; "total: mass {mass} kg, moment {moment} kg cm")?;
@@ -58,7 +58,7 @@ fn print_judgement(rt: &HostRuntime, book: &BookText) -> io::Result<()> {
 
 fn run(rt: &HostRuntime) -> Result<(), Failure> {
     let book = read_book(rt, "sheet_calls")?;
-    rt.print(&book)?;
+    book.print(rt)?;
     print_judgement(rt, &book)?;
     answer_calls(rt, &book)?;
     Ok(())

@@ -1,5 +1,4 @@
 // The bytes that a line hands to stages: records that the writer made, or hex digits.
-use hex::FromHexError;
 use listing::{Wrong, read_told};
 use records::{Call, Writer};
 use std::alloc::Global;
@@ -42,19 +41,19 @@ fn records_of(heap: Global, calls: &str) -> Result<Vec<u8>, Wrong<'_>> {
     Ok(memory)
 }
 
-// The bytes of words of hex digits.
+// The bytes of words of hex digits. A word is decoded pair by pair: a whole one would be held twice.
 fn hex_bytes(heap: Global, digits: &str) -> Result<Vec<u8>, Wrong<'_>> {
     let mut bytes = Vec::new(heap);
     for word in digits.split_whitespace() {
-        let more = hex::decode(heap, word).map_err(|error| match error {
-            FromHexError::OutOfMemory => Wrong::NoMemory,
-            _ => Wrong::Unfit {
+        for pair in word.as_bytes().chunks(2) {
+            let mut byte = [0];
+            hex::decode_to_slice(pair, &mut byte).map_err(|_| Wrong::Unfit {
                 field: "text",
                 word,
                 wanted: "pairs of hex digits",
-            },
-        })?;
-        bytes.extend_from_slice(more.as_slice())?;
+            })?;
+            bytes.push(byte[0]).map_err(|_| Wrong::NoMemory)?;
+        }
     }
     Ok(bytes)
 }
